@@ -1,0 +1,7 @@
+pub mod Chains
+pub mod Config
+pub mod ConfigLaws
+pub mod Expressions
+pub mod Names
+pub mod Satisfaction
+pub mod Value

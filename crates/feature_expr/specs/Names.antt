@@ -1,0 +1,45 @@
+-- Names, and lists of names that can be those of features.
+use Rattle.std.specs.Prelude.{ℕ, ◌+◌, ◌==◌, Bool, false, not, ◌&&◌, ◌||◌, if◌then◌else◌, List, [], ◌∷◌, ◌++◌, length, map, Option, Some, None, nat_lt, nat_le}
+use Rattle.std.specs.List.{list_any, list_all}
+use Rattle.std.specs.Str.{bytes_eq}
+use Rattle.std.specs.Char.{is_ascii_alphabetic, is_ascii_alphanumeric, to_ascii_lowercase}
+use Rattle.feature_expr.specs.declared.config.TheConstants.{FEATURE_LIMIT}
+use Rattle.feature_expr.specs.declared.features.TheConstants.{NAME_LIMIT, RESERVED}
+use Rattle.feature_expr.specs.declared.features.FeaturesRefused.{FeaturesRefused}
+use Rattle.feature_expr.specs.declared.features.FeaturesRefused.TheVariants as refused
+
+-- a letter or `_`, which is 95
+abbrev pub starts_word : ℕ → Bool
+starts_word byte = is_ascii_alphabetic byte || byte == 95
+
+-- a letter, a digit or `_`
+abbrev pub continues_word : ℕ → Bool
+continues_word byte = is_ascii_alphanumeric byte || byte == 95
+
+abbrev pub is_word_of : List ℕ → Bool
+is_word_of [] = false
+is_word_of (byte ∷ bytes) = starts_word byte && list_all continues_word bytes
+
+-- the same but for ASCII case
+abbrev pub same_word_as : List ℕ → List ℕ → Bool
+same_word_as left right = bytes_eq (map to_ascii_lowercase left) (map to_ascii_lowercase right)
+
+abbrev pub is_reserved_word : List ℕ → Bool
+is_reserved_word bytes = list_any (λ word. same_word_as bytes word.now) RESERVED
+
+-- a word of 1 to 63 bytes that isn't reserved
+abbrev pub is_name_of : List ℕ → Bool
+is_name_of bytes = nat_le (length bytes) NAME_LIMIT && is_word_of bytes && not (is_reserved_word bytes)
+
+abbrev pub among : List ℕ → List (List ℕ) → Bool
+among name names = list_any (λ other. bytes_eq other name) names
+
+-- the first bad place among the names from `place` on, where `before` stand before it
+abbrev pub refusal_from : ℕ → List (List ℕ) → List (List ℕ) → Option FeaturesRefused
+refusal_from place before [] = None
+refusal_from place before (name ∷ rest) =
+    if is_name_of name then (if among name before then Some (refused.Duplicate place) else refusal_from (place + 1) (before ++ name ∷ []) rest) else Some (refused.NotAName place)
+
+-- why the names aren't those of features, or None
+unfoldable pub refusal : List (List ℕ) → Option FeaturesRefused
+refusal names = if nat_lt FEATURE_LIMIT (length names) then Some (refused.TooMany (length names)) else refusal_from 0 [] names

@@ -1,0 +1,181 @@
+ghost use Rattle.std.specs.Prelude.{◌≡◌, ℕ, List as Items, ◌<◌, ◌==◌, ◌-◌, ◌&&◌, length, slice_get, Some, None, IfOk, IfErr, IfSome, IfNone, position, nat_lt, nat_le, not as negation};
+ghost use Rattle.std.specs.Option.{option_copied};
+ghost use Rattle.std.specs.List.{list_any, list_all};
+ghost use Rattle.std.specs.Str.{bytes_eq};
+ghost use Rattle.feature_expr.specs.Names.{starts_word, continues_word, is_word_of, same_word_as, is_reserved_word, is_name_of, among, refusal};
+
+use std::marker::Model;
+
+use thiserror::Error;
+
+use crate::config::FEATURE_LIMIT;
+use crate::list::List;
+use crate::text::Name;
+
+/// The greatest length of a name, in bytes.
+pub const NAME_LIMIT: usize = 63;
+
+/// The words that are never a name, in any case.
+pub const RESERVED: [&[u8]; 28] = [
+    b"alter", b"and", b"as", b"begin", b"choice", b"commit", b"create", b"delete", b"empty", b"except",
+    b"false", b"from", b"insert", b"into", b"join", b"none", b"not", b"on", b"or", b"rollback", b"select",
+    b"set", b"true", b"union", b"update", b"values", b"when", b"where",
+];
+
+/// Why a list of names isn't one of features.
+#[derive(Clone, Copy, Debug, PartialEq, Eq, Error)]
+pub enum FeaturesRefused {
+    #[error("{0} features, more than 64")]
+    TooMany(u64),
+    #[error("feature {0} has no name")]
+    NotAName(u64),
+    #[error("feature {0} stood before")]
+    Duplicate(u64),
+}
+
+/// The features of a product line, each with its number, in the order of their names here.
+#[derive(Debug, Drop)]
+pub struct Features {
+    names: List<Name>,
+}
+
+impl Model for Features {
+    ghost use Rattle.std.specs.Prelude.{◌≡◌, ℕ, List as Items, None};
+    ghost use Rattle.std.specs.Coded.{coded_list, coded_ℕ};
+
+    ghost Value = { Items (Items ℕ) };
+
+    ghost coded = { coded_list (coded_list coded_ℕ) };
+
+    ghost use Rattle.feature_expr.specs.Names.{refusal};
+
+    ghost view = { λ f. f.names };
+
+    ghost invariant = { λ f. refusal f.names ≡ None };
+}
+
+/// Whether the name is a word of 1 to 63 bytes that isn't reserved.
+pub fn is_name(name: &Name) -> bool
+    ensures { result ≡ is_name_of name.now }
+{
+    let bytes = name.as_slice();
+    bytes.len() <= NAME_LIMIT && is_word(bytes) && !is_reserved(bytes)
+}
+
+fn is_word_start(byte: u8) -> bool
+    ensures { result ≡ starts_word byte }
+{
+    byte.is_ascii_alphabetic() || byte == b'_'
+}
+
+fn is_word_part(byte: u8) -> bool
+    ensures { result ≡ continues_word byte }
+{
+    byte.is_ascii_alphanumeric() || byte == b'_'
+}
+
+fn is_word(bytes: &[u8]) -> bool
+    ensures { result ≡ is_word_of bytes.now }
+{
+    match bytes.split_first() {
+        Some((first, rest)) => is_word_start(*first) && is_word_tail(rest),
+        None => false,
+    }
+}
+
+fn is_word_tail(bytes: &[u8]) -> bool
+    ensures { result ≡ list_all continues_word bytes.now }
+{
+    bytes.iter().all(|byte| is_word_part(*byte))
+}
+
+/// Whether two words are the same but for ASCII case.
+pub fn same_word(left: &[u8], right: &[u8]) -> bool
+    ensures { result ≡ same_word_as left.now right.now }
+{
+    left.eq_ignore_ascii_case(right)
+}
+
+fn is_reserved(bytes: &[u8]) -> bool
+    ensures { result ≡ is_reserved_word bytes.now }
+{
+    is_one_of(bytes, &RESERVED)
+}
+
+fn is_one_of(bytes: &[u8], words: &[&[u8]]) -> bool
+    ensures { result ≡ list_any (λ word. same_word_as bytes.now word.now) words.now }
+{
+    words.iter().any(|word| same_word(bytes, word))
+}
+
+/// Whether the name is among those before it.
+fn stood_before(name: &Name, names: &[Name]) -> bool
+    ensures { result ≡ among name.now names.now }
+{
+    names.iter().any(|other| other == name)
+}
+
+#[tactic(auto, using(crate::proofs::FeatureLists::at_most_64))]
+impl Features {
+    /// Keeps the names in their order, where there are at most 64, each is a name, and none stands twice.
+    /// The count is tried first, then the places in order, from 0.
+    pub fn new(names: List<Name>) -> Result<Features, FeaturesRefused>
+        ensures ok { IfOk result (λ features. (features ≡ names) × (refusal names ≡ None)) }
+        ensures err { IfErr result (λ why. refusal names ≡ Some why) }
+    {
+        match refusal_of(names.as_slice()) {
+            Some(why) => Err(why),
+            None => Ok(Features { names }),
+        }
+    }
+
+    pub fn count(&self) -> u8
+        ensures count { result ≡ length self.now }
+        ensures names { refusal self.now ≡ None }
+    {
+        self.names.len() as u8
+    }
+
+    /// The name of a feature.
+    pub fn name(&self, feature: u8) -> &Name
+        requires { feature < length self.now }
+        ensures { slice_get self.now feature ≡ Some result.now }
+    {
+        &self.names.as_slice()[feature as usize]
+    }
+
+    /// The number of the feature with this name. It takes time in the number of features.
+    pub fn find(&self, name: &Name) -> Option<u8>
+        ensures { result ≡ position (λ other. bytes_eq other name.now) self.now }
+    {
+        match place_of(name, self.names.as_slice()) {
+            Some(place) => Some(place as u8),
+            None => None,
+        }
+    }
+}
+
+fn place_of(name: &Name, names: &[Name]) -> Option<usize>
+    ensures { result ≡ position (λ other. bytes_eq other name.now) names.now }
+{
+    names.iter().position(|other| other == name)
+}
+
+/// The first reason for which the names aren't those of features.
+#[tactic(auto, unfolding(crate::specs::Names::refusal))]
+fn refusal_of(names: &[Name]) -> Option<FeaturesRefused>
+    ensures { result ≡ refusal names.now }
+{
+    if names.len() > FEATURE_LIMIT as usize {
+        return Some(FeaturesRefused::TooMany(names.len() as u64));
+    }
+    for (place, name) in names.iter().enumerate() {
+        if !is_name(name) {
+            return Some(FeaturesRefused::NotAName(place as u64));
+        }
+        if stood_before(name, &names[..place]) {
+            return Some(FeaturesRefused::Duplicate(place as u64));
+        }
+    }
+    None
+}
