@@ -31,8 +31,9 @@ lt_or_ge a b = elim (leb_tells b a) [ inl le ↦ inr le.1 | inr lt ↦ inl lt.1 
 bit_with : (n k i : ℕ) → k < 64 → (bit_at (bit_or n (1 * 2 ^ k % 2 ^ 64)) i == 1) ≡ (i == k || bit_at n i == 1)
 bit_with n k i h =
     elim (eqb_tells i k) [
-        inl same ↦ ap (λ b. b == 1) (ap (λ j. bit_at (bit_or n (1 * 2 ^ k % 2 ^ 64)) j) same.1 ∙ bit_at_set_same w64 n k h) ∙ sym (ap (λ b. b || bit_at n i == 1) same.0)
-      | inr other ↦ ap (λ b. b == 1) (bit_at_set_other w64 n k h i other.1) ∙ sym (ap (λ b. b || bit_at n i == 1) other.0) ]
+      | inl same ↦ ap (λ b. b == 1) (ap (λ j. bit_at (bit_or n (1 * 2 ^ k % 2 ^ 64)) j) same.1 ∙ bit_at_set_same w64 n k h) ∙ sym (ap (λ b. b || bit_at n i == 1) same.0)
+      | inr other ↦ ap (λ b. b == 1) (bit_at_set_other w64 n k h i other.1) ∙ sym (ap (λ b. b || bit_at n i == 1) other.0)
+    ]
 
 IsBetween-weaken : (low high : ℕ) (xs : List ℕ) → IsBetween low high xs → IsBetween low (suc high) xs
 IsBetween-weaken low high [] h = tt
@@ -74,8 +75,9 @@ has_feature-ones_below zero n i h = absurd (omega arith)
 has_feature-ones_below (suc k) n i h =
     let pushed = has_feature-push_if (bit_at n k == 1) k (ones_below k n) i in
     pushed ∙ elim (eqb_tells k i) [
-        inl same ↦ ap₂ ◌||◌ (has_feature_above k n i (omega arith)) (ap (λ b. bit_at n k == 1 && b) same.0 ∙ and-true (bit_at n k == 1) ∙ ap (λ j. bit_at n j == 1) same.1)
-      | inr other ↦ ap₂ ◌||◌ (has_feature-ones_below k n i (omega arith)) (ap (λ b. bit_at n k == 1 && b) other.0 ∙ and-false (bit_at n k == 1)) ∙ or-false (bit_at n i == 1) ]
+      | inl same ↦ ap₂ ◌||◌ (has_feature_above k n i (omega arith)) (ap (λ b. bit_at n k == 1 && b) same.0 ∙ and-true (bit_at n k == 1) ∙ ap (λ j. bit_at n j == 1) same.1)
+      | inr other ↦ ap₂ ◌||◌ (has_feature-ones_below k n i (omega arith)) (ap (λ b. bit_at n k == 1 && b) other.0 ∙ and-false (bit_at n k == 1)) ∙ or-false (bit_at n i == 1)
+    ]
 
 pub ones_below-zero : (k : ℕ) → ones_below k 0 ≡ []
 unfolding ones_below
@@ -85,8 +87,9 @@ ones_below-zero (suc k) = ap₂ ◌++◌ (ones_below-zero k) (ap (λ bit. if bit
 pub has_feature-with : (n k i : ℕ) → k < 64 → has_feature (ones_below 64 (bit_or n (1 * 2 ^ k % 2 ^ 64))) i ≡ (i == k || has_feature (ones_below 64 n) i)
 has_feature-with n k i h =
     elim (lt_or_ge i 64) [
-        inl below ↦ has_feature-ones_below 64 _ i below ∙ bit_with n k i h ∙ ap (λ b. i == k || b) (sym (has_feature-ones_below 64 n i below))
-      | inr above ↦ has_feature_above 64 _ i above ∙ sym (ap₂ ◌||◌ (let apart : i ≢ k = omega arith in not_same i k apart) (has_feature_above 64 n i above)) ]
+      | inl below ↦ has_feature-ones_below 64 _ i below ∙ bit_with n k i h ∙ ap (λ b. i == k || b) (sym (has_feature-ones_below 64 n i below))
+      | inr above ↦ has_feature_above 64 _ i above ∙ sym (ap₂ ◌||◌ (let apart : i ≢ k = omega arith in not_same i k apart) (has_feature_above 64 n i above))
+    ]
 
 pub holds_below : (bits feature : ℕ) (c : List ℕ) → ones_below 64 bits ≡ c → feature < 64 → nat_eq (bit_and (bits / 2 ^ feature) 1) 1 ≡ has_feature c feature
 holds_below bits feature c view below =

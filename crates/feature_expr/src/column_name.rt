@@ -1,7 +1,6 @@
-use std::alloc::Global;
-
 use crate::memory::{Memory, TryCopy};
 use crate::text::Name;
+use std::alloc::Global;
 
 /// A column's name: a name alone, or behind the prefix of an alias.
 #[derive(Debug, PartialEq, Eq, PartialOrd, Ord, Hash, Drop)]

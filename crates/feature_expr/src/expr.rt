@@ -3,12 +3,10 @@ ghost use Rattle.feature_expr.specs.Satisfaction.{satisfies};
 ghost use Rattle.feature_expr.specs.Expressions.{weight_of, mentions, and_of, or_of, not_of};
 ghost use Rattle.feature_expr.specs.Chains.{wrapped, rewrapped};
 
-use std::alloc::Global;
-
-use sqlite_items::Boxed;
-
 use crate::config::Config;
 use crate::memory::{Memory, TryCopy};
+use sqlite_items::Boxed;
+use std::alloc::Global;
 
 /// A propositional formula over features, which go by their number.
 ///
@@ -173,14 +171,14 @@ fn wrap(alloc: Global, step: Step, inner: Expr) -> Result<Expr, Memory>
     }
 }
 
-fn make_not(alloc: Global, inner: Expr) -> Result<Expr, Memory>
+pub fn make_not(alloc: Global, inner: Expr) -> Result<Expr, Memory>
     ensures { IfOk result (λ it. it ≡ Expr.Not inner) }
 {
     let inner = Boxed::new(alloc, inner)?;
     Ok(Expr::Not(inner))
 }
 
-fn make_and(alloc: Global, left: Expr, right: Expr) -> Result<Expr, Memory>
+pub fn make_and(alloc: Global, left: Expr, right: Expr) -> Result<Expr, Memory>
     ensures { IfOk result (λ it. it ≡ Expr.And left right) }
 {
     let left = Boxed::new(alloc, left)?;
@@ -188,7 +186,7 @@ fn make_and(alloc: Global, left: Expr, right: Expr) -> Result<Expr, Memory>
     Ok(Expr::And(left, right))
 }
 
-fn make_or(alloc: Global, left: Expr, right: Expr) -> Result<Expr, Memory>
+pub fn make_or(alloc: Global, left: Expr, right: Expr) -> Result<Expr, Memory>
     ensures { IfOk result (λ it. it ≡ Expr.Or left right) }
 {
     let left = Boxed::new(alloc, left)?;

@@ -4,22 +4,45 @@ ghost use Rattle.std.specs.List.{list_any, list_all};
 ghost use Rattle.std.specs.Str.{bytes_eq};
 ghost use Rattle.feature_expr.specs.Names.{starts_word, continues_word, is_word_of, same_word_as, is_reserved_word, is_name_of, among, refusal};
 
-use std::marker::Model;
-
-use thiserror::Error;
-
 use crate::config::FEATURE_LIMIT;
 use crate::list::List;
 use crate::text::Name;
+use std::marker::Model;
+use thiserror::Error;
 
 /// The greatest length of a name, in bytes.
 pub const NAME_LIMIT: usize = 63;
 
 /// The words that are never a name, in any case.
 pub const RESERVED: [&[u8]; 28] = [
-    b"alter", b"and", b"as", b"begin", b"choice", b"commit", b"create", b"delete", b"empty", b"except",
-    b"false", b"from", b"insert", b"into", b"join", b"none", b"not", b"on", b"or", b"rollback", b"select",
-    b"set", b"true", b"union", b"update", b"values", b"when", b"where",
+    b"alter",
+    b"and",
+    b"as",
+    b"begin",
+    b"choice",
+    b"commit",
+    b"create",
+    b"delete",
+    b"empty",
+    b"except",
+    b"false",
+    b"from",
+    b"insert",
+    b"into",
+    b"join",
+    b"none",
+    b"not",
+    b"on",
+    b"or",
+    b"rollback",
+    b"select",
+    b"set",
+    b"true",
+    b"union",
+    b"update",
+    b"values",
+    b"when",
+    b"where",
 ];
 
 /// Why a list of names isn't one of features.
@@ -58,7 +81,13 @@ impl Model for Features {
 pub fn is_name(name: &Name) -> bool
     ensures { result ≡ is_name_of name.now }
 {
-    let bytes = name.as_slice();
+    is_name_word(name.as_slice())
+}
+
+/// Whether bytes are a name, as `is_name` says.
+pub fn is_name_word(bytes: &[u8]) -> bool
+    ensures { result ≡ is_name_of bytes.now }
+{
     bytes.len() <= NAME_LIMIT && is_word(bytes) && !is_reserved(bytes)
 }
 
@@ -68,7 +97,8 @@ fn is_word_start(byte: u8) -> bool
     byte.is_ascii_alphabetic() || byte == b'_'
 }
 
-fn is_word_part(byte: u8) -> bool
+/// Whether a byte is a letter, a digit or `_`.
+pub fn is_word_part(byte: u8) -> bool
     ensures { result ≡ continues_word byte }
 {
     byte.is_ascii_alphanumeric() || byte == b'_'
@@ -148,17 +178,31 @@ impl Features {
     pub fn find(&self, name: &Name) -> Option<u8>
         ensures { result ≡ position (λ other. bytes_eq other name.now) self.now }
     {
-        match place_of(name, self.names.as_slice()) {
+        self.find_word(name.as_slice())
+    }
+
+    /// The number of the feature whose name has these bytes.
+    pub fn find_word(&self, word: &[u8]) -> Option<u8>
+        ensures { result ≡ position (λ other. bytes_eq other word.now) self.now }
+    {
+        match place_of(word, self.names.as_slice()) {
             Some(place) => Some(place as u8),
             None => None,
         }
     }
+
+    /// The name of a feature, or None where there is no such feature.
+    pub fn get(&self, feature: u8) -> Option<&Name>
+        ensures { option_copied result ≡ slice_get self.now feature }
+    {
+        self.names.get(feature as usize)
+    }
 }
 
-fn place_of(name: &Name, names: &[Name]) -> Option<usize>
-    ensures { result ≡ position (λ other. bytes_eq other name.now) names.now }
+fn place_of(word: &[u8], names: &[Name]) -> Option<usize>
+    ensures { result ≡ position (λ other. bytes_eq other word.now) names.now }
 {
-    names.iter().position(|other| other == name)
+    names.iter().position(|other| other.as_slice() == word)
 }
 
 /// The first reason for which the names aren't those of features.

@@ -9,14 +9,23 @@ mod expr;
 mod features;
 mod list;
 mod memory;
+mod parse;
+mod print;
 mod text;
+mod token;
 mod value;
 
 pub use column_name::ColName;
 pub use config::Config;
 pub use expr::{Expr, and, copy_expr, eval, not, or, weight};
-pub use features::{Features, FeaturesRefused, is_name};
+pub use features::{Features, FeaturesRefused, is_name, is_name_word, same_word};
 pub use list::List;
 pub use memory::{Memory, TryCopy};
+pub use parse::{
+    ExprRefused, Fault, Reading, deeper, expression, is_sign_at, is_word_at, parse_expr,
+    token_place,
+};
+pub use print::print_expr;
 pub use text::{Name, Text};
+pub use token::{Token, TokenKind, end_line, end_place, tokens};
 pub use value::{Kind, Value};

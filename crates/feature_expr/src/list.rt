@@ -1,10 +1,9 @@
 ghost use Rattle.std.specs.Prelude.{◌≡◌, ◌==◌, [], ◌∷◌, ◌++◌, ◌<◌, length, slice_get, OnOk, OnSome, IfOk, IfErr, MatchOption};
 ghost use Rattle.std.specs.Option.{option_copied};
 
+use crate::memory::{Memory, TryCopy};
 use std::alloc::{AllocFailed, Global};
 use std::marker::Model;
-
-use crate::memory::{Memory, TryCopy};
 
 /// A growing list, which contracts see as the list of its items.
 #[derive(Debug, Drop)]

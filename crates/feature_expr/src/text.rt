@@ -8,13 +8,12 @@ ghost use Rattle.std.specs.Cmp.Rules.{comparing, hashing};
 ghost use Rattle.std.specs.Str.{bytes_eq};
 ghost use Rattle.std.proofs.Common.{rules};
 
+use crate::list::List;
+use crate::memory::{Memory, TryCopy};
 use std::alloc::Global;
 use std::cmp::Ordering;
 use std::hash::{Hash, Hasher};
 use std::marker::Model;
-
-use crate::list::List;
-use crate::memory::{Memory, TryCopy};
 
 /// Bytes of a text, which contracts see as the list of them. They are ordered by their values.
 #[derive(Debug, Drop)]

@@ -1,10 +1,9 @@
 ghost use Rattle.std.specs.Prelude.{◌≡◌};
 ghost use Rattle.feature_expr.specs.Value.{kind_of};
 
-use std::alloc::Global;
-
 use crate::memory::{Memory, TryCopy};
 use crate::text::Text;
+use std::alloc::Global;
 
 /// What a column holds.
 #[derive(Clone, Copy, Debug, PartialEq, Eq)]
