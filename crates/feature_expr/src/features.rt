@@ -6,7 +6,9 @@ ghost use Rattle.feature_expr.specs.Names.{starts_word, continues_word, is_word_
 
 use crate::config::FEATURE_LIMIT;
 use crate::list::List;
+use crate::memory::{Memory, TryCopy};
 use crate::text::Name;
+use std::alloc::Global;
 use std::marker::Model;
 use thiserror::Error;
 
@@ -75,6 +77,13 @@ impl Model for Features {
     ghost view = { λ f. f.names };
 
     ghost invariant = { λ f. refusal f.names ≡ None };
+}
+
+impl TryCopy for Features {
+    fn copy(&self, alloc: Global) -> Result<Self, Memory> {
+        let names = self.names.copy(alloc)?;
+        Ok(Features { names })
+    }
 }
 
 /// Whether the name is a word of 1 to 63 bytes that isn't reserved.

@@ -1,0 +1,17 @@
+//! The catalogue: the features, tables and opening rows of a product line, as a file spells them.
+#![tactic(auto)]
+
+mod catalog;
+mod columns;
+mod entries;
+mod parse_features;
+mod parse_row;
+mod parse_table;
+mod refused;
+mod words;
+
+mod parse;
+
+pub use catalog::{Catalog, Column, OpeningRow, Table};
+pub use parse::parse_catalog;
+pub use refused::CatalogRefused;
