@@ -1,6 +1,5 @@
-use std::alloc::Global;
-
 use feature_expr::{Expr, Features, Kind, List, Memory, Name, TryCopy, Value};
+use std::alloc::Global;
 
 /// A column of a table, which is there in the variants that satisfy its condition and have the table.
 #[derive(Drop)]
@@ -40,7 +39,11 @@ pub struct OpeningRow {
 impl Catalog {
     /// The number of the table with this name. It takes time in the number of tables.
     pub fn find_table(&self, name: &Name) -> Option<u32> {
-        let place = self.tables.as_slice().iter().position(|table| table.name == *name)?;
+        let place = self
+            .tables
+            .as_slice()
+            .iter()
+            .position(|table| table.name == *name)?;
         u32::try_from(place).ok()
     }
 }

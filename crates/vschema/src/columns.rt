@@ -1,8 +1,7 @@
 ghost use Rattle.std.specs.Prelude.{◌<◌, length, IfSome};
 
-use feature_expr::Name;
-
 use crate::catalog::Column;
+use feature_expr::Name;
 
 /// The greatest number of columns of a table.
 pub const COLUMN_LIMIT: usize = 64;

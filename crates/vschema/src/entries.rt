@@ -1,15 +1,13 @@
 ghost use Rattle.std.specs.Prelude.{◌<◌, ◌≤◌, ◌+◌, length, IfOk};
 
-use std::alloc::Global;
-use std::collections::BTreeMap;
-
-use feature_expr::{List, Name, Reading, is_word_at};
-
 use crate::catalog::{OpeningRow, Table};
 use crate::parse_row::parse_row;
 use crate::parse_table::parse_table;
 use crate::refused::CatalogRefused;
 use crate::words::folded_name_at;
+use feature_expr::{List, Name, Reading, is_word_at};
+use std::alloc::Global;
+use std::collections::BTreeMap;
 
 /// The greatest number of tables.
 pub const TABLE_LIMIT: usize = 256;

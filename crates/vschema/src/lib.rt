@@ -4,13 +4,14 @@
 mod catalog;
 mod columns;
 mod entries;
+mod parse;
 mod parse_features;
 mod parse_row;
 mod parse_table;
 mod refused;
+#[cfg(test)]
+mod tests;
 mod words;
-
-mod parse;
 
 pub use catalog::{Catalog, Column, OpeningRow, Table};
 pub use parse::parse_catalog;

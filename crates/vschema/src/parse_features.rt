@@ -1,9 +1,8 @@
 ghost use Rattle.std.specs.Prelude.{◌<◌, ◌≤◌, length, IfOk};
 
-use feature_expr::{FEATURE_LIMIT, Features, List, Name, Reading, is_sign_at};
-
 use crate::refused::CatalogRefused;
 use crate::words::{name_at, wanted_sign, wanted_word};
+use feature_expr::{FEATURE_LIMIT, Features, List, Name, Reading, is_sign_at};
 
 /// The features that a catalogue declares at its head, and the token behind them.
 pub fn parse_features(reading: &Reading<'_>) -> Result<(Features, usize), CatalogRefused>

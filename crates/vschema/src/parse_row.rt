@@ -1,11 +1,12 @@
 ghost use Rattle.std.specs.Prelude.{◌<◌, ◌≤◌, ◌+◌, length, vec_len, IfOk, OnOk, ◌≡◌};
 
-use feature_expr::{Expr, List, Memory, Reading, TokenKind, TryCopy, Value, expression, is_sign_at, is_word_at};
-
 use crate::catalog::{Column, OpeningRow, Table};
 use crate::columns::{COLUMN_LIMIT, find_column};
 use crate::refused::CatalogRefused;
 use crate::words::{folded_name_at, wanted_sign};
+use feature_expr::{
+    Expr, List, Memory, Reading, TokenKind, TryCopy, Value, expression, is_sign_at, is_word_at,
+};
 
 /// The row of a table whose bracket stands at a token, and the token behind it.
 pub fn parse_row(

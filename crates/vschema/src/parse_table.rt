@@ -1,11 +1,10 @@
 ghost use Rattle.std.specs.Prelude.{◌<◌, ◌≤◌, ◌+◌, length, IfOk};
 
-use feature_expr::{Expr, Kind, List, Reading, is_sign_at, is_word_at};
-
 use crate::catalog::{Column, Table};
 use crate::columns::{COLUMN_LIMIT, find_column};
 use crate::refused::CatalogRefused;
 use crate::words::{folded_name_at, wanted_sign};
+use feature_expr::{Expr, Kind, List, Reading, is_sign_at, is_word_at};
 
 /// The table whose name stands at a token, and the token behind it.
 pub fn parse_table(reading: &Reading<'_>, at: usize) -> Result<(Table, usize), CatalogRefused>
@@ -25,7 +24,10 @@ pub fn parse_table(reading: &Reading<'_>, at: usize) -> Result<(Table, usize), C
 }
 
 /// Columns with commas between them, no name twice.
-fn parse_columns(reading: &Reading<'_>, from: usize) -> Result<(List<Column>, usize), CatalogRefused>
+fn parse_columns(
+    reading: &Reading<'_>,
+    from: usize,
+) -> Result<(List<Column>, usize), CatalogRefused>
     ensures { IfOk result (λ found. from < found.1) }
 {
     let mut columns = Vec::new(reading.alloc);

@@ -1,6 +1,5 @@
-use std::alloc::{AllocError, AllocFailed};
-
 use feature_expr::{Fault, Memory};
+use std::alloc::{AllocError, AllocFailed};
 
 /// Why a file's bytes aren't a catalogue.
 #[derive(Clone, Copy, Debug, PartialEq, Eq)]

@@ -1,10 +1,8 @@
 ghost use Rattle.std.specs.Prelude.{◌<◌, length, IsSome, IsTrue, OnOk, OnSome, vec_len};
 
-use std::alloc::Global;
-
-use feature_expr::{Memory, Name, Reading, TokenKind, is_name_word, is_sign_at, is_word_at};
-
 use crate::refused::CatalogRefused;
+use feature_expr::{Memory, Name, Reading, TokenKind, is_name_word, is_sign_at, is_word_at};
+use std::alloc::Global;
 
 /// The bytes of a name that stands at a token.
 pub fn name_at<'a>(reading: &Reading<'a>, at: usize) -> Option<&'a [u8]>

@@ -1,0 +1,12 @@
+//! Replies of fixed bytes, which are put without memory.
+
+/// An ErrorResponse with the code 53200 and the text `out of memory`.
+pub const OUT_OF_MEMORY: &[u8] =
+    b"E\x00\x00\x00\x29SERROR\x00VERROR\x00C53200\x00Mout of memory\x00\x00";
+
+/// An ErrorResponse with the code 0A000 and the text `not built yet`. The session ends with it.
+pub const NOT_BUILT: &[u8] =
+    b"E\x00\x00\x00\x29SFATAL\x00VFATAL\x00C0A000\x00Mnot built yet\x00\x00";
+
+/// A ReadyForQuery outside of a transaction block.
+pub const READY: &[u8] = b"Z\x00\x00\x00\x05I";

@@ -1,0 +1,22 @@
+use feature_expr::Text;
+
+/// Where a session stands between two messages.
+#[derive(Drop)]
+pub enum Phase {
+    /// No start-up message has been taken yet.
+    Start,
+    /// A message may come.
+    Ready,
+    /// The statement of a Query was answered, and its tag and the end of the Query are still to be sent.
+    Query(Text),
+    /// Nothing is taken any more.
+    Ended,
+}
+
+/// The transaction of a session.
+#[derive(Clone, Copy, Debug, PartialEq, Eq)]
+pub enum Transaction {
+    Idle,
+    /// One that a statement began, over the snapshot with this number. It ends with its Query.
+    Implicit(u64),
+}

@@ -1,0 +1,99 @@
+-- How the program ends: the statuses, the lines, and the cause of each exit.
+use Rattle.std.specs.Prelude.{◌≡◌, ℕ, ◌≤◌, ◌⊎◌, Bool, false, List, [], ◌∷◌, codes, length}
+use Rattle.std.specs.Str.{bytes_eq}
+use Rattle.causes.specs.Faults.{Rose}
+use Rattle.causes.specs.Told.{IsContent}
+use Rattle.vschema.specs.Refusals.{IsRefused}
+use Rattle.vschema.specs.declared.refused.CatalogRefused.TheVariants as refused
+use Rattle.vdb_server.specs.Sinks.{Held}
+use Rattle.vdb_server.specs.Sources.{Files, IsLong}
+use Rattle.vdb_server.specs.declared.tool.TheConstants.{FILE_LIMIT}
+use Rattle.vdb_server.specs.declared.exit.CatalogueFault.{CatalogueFault}
+use Rattle.vdb_server.specs.declared.exit.CatalogueFault.TheVariants as fault
+use Rattle.vdb_server.specs.declared.exit.Exit.{Exit}
+use Rattle.vdb_server.specs.declared.exit.Exit.TheVariants as exit
+
+abbrev pub status_of : Exit → ℕ
+status_of exit.Done = 0
+status_of exit.Usage = 1
+status_of (exit.Catalogue why) = 2
+status_of exit.ReadFault = 3
+status_of exit.WriteFault = 4
+status_of exit.LinksFault = 5
+status_of exit.TurnsOut = 6
+status_of exit.Memory = 7
+status_of exit.TooLong = 8
+status_of exit.KeeperFault = 9
+
+-- the line for standard error
+abbrev pub line_of : Exit → List ℕ
+line_of exit.Done = []
+line_of exit.Usage = codes "usage"
+line_of (exit.Catalogue why) = codes "catalogue: refused"
+line_of exit.ReadFault = codes "read fault"
+line_of exit.WriteFault = codes "write fault"
+line_of exit.LinksFault = codes "links fault"
+line_of exit.TurnsOut = codes "turns out"
+line_of exit.Memory = codes "out of memory"
+line_of exit.TooLong = codes "file too long"
+line_of exit.KeeperFault = codes "keeper fault"
+
+-- whether the words are `replay` and the names of two files
+abbrev pub is_replay : List (List ℕ) → Bool
+is_replay (command ∷ catalogue ∷ stream ∷ []) = bytes_eq command (codes "replay")
+is_replay _ = false
+
+-- the names of the two files of a replay
+abbrev pub catalogue_name : List (List ℕ) → List ℕ
+catalogue_name (command ∷ catalogue ∷ rest) = catalogue
+catalogue_name _ = []
+
+abbrev pub stream_name : List (List ℕ) → List ℕ
+stream_name (command ∷ catalogue ∷ stream ∷ rest) = stream
+stream_name _ = []
+
+-- the reader's own refusal of these bytes
+abbrev pub RefusedFor : CatalogueFault → List ℕ → Type 0
+RefusedFor (fault.Parse refused.NotRead) bytes = IsRefused bytes
+RefusedFor (fault.Parse refused.Memory) bytes = ⊥
+
+-- the file was read whole, and the reader refused its bytes for another cause than memory
+pub record IsRefusedFile (files : Files) (name : List ℕ) (why : CatalogueFault) : Type 0 where
+  pub bytes : List ℕ
+  pub content : IsContent files.contents name bytes
+  pub within : length bytes ≤ FILE_LIMIT
+  pub refused : RefusedFor why bytes
+
+-- an exit with a catalogue's fault shows this of it
+abbrev pub IfCatalogue : Exit → (CatalogueFault → Type 0) → Type 0
+IfCatalogue (exit.Catalogue why) shown = shown why
+IfCatalogue _ shown = Unit {0}
+
+-- the exits of a read of a file, with their causes
+abbrev pub IsReadExit : Files → List ℕ → Exit → Files → Type 0
+IsReadExit before name exit.ReadFault after = Rose before.faults after.faults
+IsReadExit before name exit.TooLong after = IsLong before.contents name FILE_LIMIT
+IsReadExit before name exit.Memory after = Unit {0}
+IsReadExit before name _ after = ⊥
+
+-- the exits of reading a catalogue, with their causes
+abbrev pub IsOpeningExit : Files → List ℕ → Exit → Files → Type 0
+IsOpeningExit before name (exit.Catalogue why) after = IsRefusedFile before name why
+IsOpeningExit before name other after = IsReadExit before name other after
+
+-- the exits of a replay of a file over a catalogue, with their causes
+abbrev pub IsRunExit : Files → List ℕ → List ℕ → Exit → Files → Held → Held → Type 0
+IsRunExit before catalogue stream exit.Done after out out' = Unit {0}
+IsRunExit before catalogue stream (exit.Catalogue why) after out out' = IsRefusedFile before catalogue why
+IsRunExit before catalogue stream exit.ReadFault after out out' = Rose before.faults after.faults
+IsRunExit before catalogue stream exit.WriteFault after out out' = Rose out.faults out'.faults
+IsRunExit before catalogue stream exit.TooLong after out out' = IsLong before.contents catalogue FILE_LIMIT ⊎ IsLong before.contents stream FILE_LIMIT
+IsRunExit before catalogue stream exit.Memory after out out' = Unit {0}
+IsRunExit before catalogue stream _ after out out' = ⊥
+
+-- the exits that the tool has; the others are a server's
+abbrev pub IsToolExit : Exit → Type 0
+IsToolExit exit.LinksFault = ⊥
+IsToolExit exit.TurnsOut = ⊥
+IsToolExit exit.KeeperFault = ⊥
+IsToolExit _ = Unit {0}

@@ -1,0 +1,29 @@
+-- What a source of files means, and what a read of a file leaves.
+use Rattle.std.specs.Prelude.{◌≡◌, ℕ, ◌<◌, ◌≤◌, List, Option, Some, None, ◌++◌, length}
+use Rattle.causes.specs.Faults.{Rose}
+use Rattle.causes.specs.Told.{IsContent}
+use Rattle.vdb_server.specs.declared.source.FileGot.{FileGot}
+use Rattle.vdb_server.specs.declared.source.FileGot.TheVariants as got
+
+-- the files with their contents, where they are told, and a count of faults
+pub record Files : Type 0 where
+  pub contents : Option (List (List ℕ × List ℕ))
+  pub faults : ℕ
+
+-- a file of this name has more than so many bytes, where the contents are told
+abbrev pub IsLong : Option (List (List ℕ × List ℕ)) → List ℕ → ℕ → Type 0
+IsLong None name most = Unit {0}
+IsLong (Some files) name most = (bytes : List ℕ) × IsContent (Some files) name bytes × (most < length bytes)
+
+-- a read of the file `name`, of at most so many bytes, behind the bytes `old`
+abbrev pub Reads : Files → List ℕ → ℕ → FileGot → Files → List ℕ → List ℕ → Type 0
+Reads before name most got.Whole after old new =
+    (bytes : List ℕ) × IsContent before.contents name bytes × (length bytes ≤ most) × (new ≡ old ++ bytes)
+Reads before name most got.TooLong after old new = IsLong before.contents name most × (new ≡ old)
+Reads before name most got.Failed after old new = Rose before.faults after.faults × (new ≡ old)
+Reads before name most got.Memory after old new = new ≡ old
+
+-- no call changes the contents, and no count falls
+pub record Lasts (before after : Files) : Type 0 where
+  pub same : after.contents ≡ before.contents
+  pub later : before.faults ≤ after.faults

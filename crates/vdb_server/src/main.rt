@@ -1,0 +1,53 @@
+//! The program: it makes the real objects, runs the command that its words name, and tells how it ended.
+#![tactic(auto)]
+
+mod exit;
+mod mem_files;
+mod mem_sink;
+mod real_files;
+mod replay;
+mod sink;
+mod source;
+mod tool;
+mod writer_sink;
+
+use exit::{Exit, fault_line, status};
+use real_files::RealFiles;
+use std::alloc::AllocError;
+use std::process::ExitCode;
+use std::rt::Runtime;
+use std::{env, io, str};
+use tool::run_tool;
+use writer_sink::WriterSink;
+
+fn main(rt: HostRuntime) -> ExitCode {
+    let exit = run(&rt);
+    tell(&rt, &exit);
+    ExitCode::from(status(&exit))
+}
+
+/// Runs the command over the system's files and standard output.
+fn run<R: Runtime + AllocGlobal>(rt: &R) -> Exit {
+    let words: Vec<String> = match env::args(rt) {
+        Ok(words) => match words.skip(1).collect(rt.alloc()) {
+            Ok(words) => words,
+            Err(AllocError) => return Exit::Memory,
+        },
+        Err(_error) => return Exit::Memory,
+    };
+    let mut files = RealFiles::new(rt);
+    let mut out = WriterSink::new(io::writer(rt));
+    run_tool(rt.alloc(), words.as_slice(), &mut files, &mut out)
+}
+
+/// Says on standard error why the program didn't do what it was asked for.
+fn tell<R: Eprint + AllocGlobal>(rt: &R, exit: &Exit) {
+    if *exit == Exit::Done {
+        return;
+    }
+    if let Ok(line) = fault_line(rt.alloc(), exit) {
+        if let Ok(line) = str::from_utf8(line.as_slice()) {
+            let _told = rt.eprintln(line);
+        }
+    }
+}

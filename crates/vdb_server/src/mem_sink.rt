@@ -1,0 +1,46 @@
+ghost use Rattle.vdb_server.specs.MemSinks.{held_of};
+
+use crate::sink::{Sink, SinkPut};
+use feature_expr::List;
+use std::alloc::Global;
+
+/// A sink in memory. A piece for which it finds no memory is a fault.
+#[derive(Debug, Drop)]
+pub struct MemSink {
+    bytes: Vec<u8>,
+    failing: List<u64>,
+    calls: u64,
+    faults: u64,
+}
+
+impl MemSink {
+    /// An empty one. The calls with the numbers in `failing`, counted from 0, fail.
+    pub fn new(alloc: Global, failing: List<u64>) -> MemSink {
+        MemSink {
+            bytes: Vec::new(alloc),
+            failing,
+            calls: 0,
+            faults: 0,
+        }
+    }
+
+    /// The bytes that were put.
+    pub fn bytes(&self) -> &[u8] {
+        self.bytes.as_slice()
+    }
+}
+
+impl Sink for MemSink {
+    ghost held = { held_of };
+
+    fn put(&mut self, piece: &[u8]) -> SinkPut {
+        let is_failing = self.failing.as_slice().contains(&self.calls);
+        self.calls = self.calls.saturating_add(1);
+        if !is_failing && self.bytes.extend_from_slice(piece).is_ok() {
+            SinkPut::Took(piece.len())
+        } else {
+            self.faults = self.faults.saturating_add(1);
+            SinkPut::Failed
+        }
+    }
+}

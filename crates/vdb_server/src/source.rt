@@ -1,0 +1,23 @@
+ghost use Rattle.std.specs.Prelude.{ℕ};
+ghost use Rattle.vdb_server.specs.Sources.{Files, Reads, Lasts};
+
+/// What a read of a file gave.
+#[derive(Clone, Copy, Debug, PartialEq, Eq)]
+pub enum FileGot {
+    /// The whole content, behind what was there.
+    Whole,
+    TooLong,
+    Failed,
+    Memory,
+}
+
+/// Where files come from. It means their contents, where they are told, and a count of faults that never falls.
+pub trait Source {
+    ghost files: { Self → Files };
+
+    /// Reads the file with this name, of at most `max` bytes, behind what `into` holds. Every answer but `Whole`
+    /// leaves `into` as it was.
+    fn read_file(&mut self, name: &str, max: u64, into: &mut Vec<u8>) -> FileGot
+        ensures got { Reads (files self.old) name.now max result (files self.new) into.old.items into.new.items }
+        ensures lasts { Lasts (files self.old) (files self.new) };
+}

@@ -1,0 +1,95 @@
+ghost use Rattle.std.specs.Prelude.{◌≡◌, ◌≤◌, ◌↔◌, ◌⊎◌, false, map, length, string_bytes, IfOk, IfErr};
+ghost use Rattle.causes.specs.Faults.{Rose};
+ghost use Rattle.causes.specs.Told.{IsContent};
+ghost use Rattle.vdb_server.specs.Sources.{IsLong, Lasts};
+ghost use Rattle.vdb_server.specs.Exits.{is_replay, catalogue_name, stream_name, IsRefusedFile, IfCatalogue, IsReadExit, IsOpeningExit, IsRunExit, IsToolExit};
+ghost use Rattle.vdb_server.specs.declared.exit.Exit.TheVariants as exit;
+
+use crate::exit::{CatalogueFault, Exit};
+use crate::replay::replay;
+use crate::sink::Sink;
+use crate::source::{FileGot, Source};
+use session_poll::Opening;
+use std::alloc::Global;
+use vschema::{CatalogRefused, parse_catalog};
+
+/// The greatest length of a file that is read, in bytes.
+pub const FILE_LIMIT: u64 = 268_435_456;
+
+/// Runs the command that the words name: `replay CATALOGUE STREAM` runs one session over the bytes of the second file
+/// and puts out what it answers.
+pub fn run_tool<F: Source, O: Sink>(
+    alloc: Global,
+    words: &[String],
+    files: &mut F,
+    out: &mut O,
+) -> Exit
+    ensures usage { (result ≡ exit.Usage) ↔ (is_replay (map string_bytes words.now) ≡ false) }
+    ensures read { result ≡ exit.ReadFault → Rose (F.files files.old).faults (F.files files.new).faults }
+    ensures write { result ≡ exit.WriteFault → Rose (O.held out.old).faults (O.held out.new).faults }
+    ensures long { result ≡ exit.TooLong
+        → IsLong (F.files files.old).contents (catalogue_name (map string_bytes words.now)) FILE_LIMIT
+        ⊎ IsLong (F.files files.old).contents (stream_name (map string_bytes words.now)) FILE_LIMIT }
+    ensures catalogue { IfCatalogue result (IsRefusedFile (F.files files.old) (catalogue_name (map string_bytes words.now))) }
+    ensures served { IsToolExit result }
+    ensures lasts { Lasts (F.files files.old) (F.files files.new) }
+{
+    match words {
+        [command, catalogue, stream] if command.as_str() == "replay" => {
+            run_replay(alloc, catalogue.as_str(), stream.as_str(), files, out)
+        }
+        _ => Exit::Usage,
+    }
+}
+
+fn run_replay<F: Source, O: Sink>(
+    alloc: Global,
+    catalogue: &str,
+    stream: &str,
+    files: &mut F,
+    out: &mut O,
+) -> Exit
+    ensures ends { IsRunExit (F.files files.old) catalogue.now stream.now result (F.files files.new) (O.held out.old) (O.held out.new) }
+    ensures lasts { Lasts (F.files files.old) (F.files files.new) }
+{
+    let opening = match read_opening(alloc, catalogue, files) {
+        Ok(opening) => opening,
+        Err(exit) => return exit,
+    };
+    let bytes = match read_whole(alloc, stream, files) {
+        Ok(bytes) => bytes,
+        Err(exit) => return exit,
+    };
+    replay(alloc, &opening, bytes.as_slice(), out)
+}
+
+/// Reads a catalogue, and lets go of its bytes.
+fn read_opening<F: Source>(alloc: Global, name: &str, files: &mut F) -> Result<Opening, Exit>
+    ensures err { IfErr result (λ exit. IsOpeningExit (F.files files.old) name.now exit (F.files files.new)) }
+    ensures lasts { Lasts (F.files files.old) (F.files files.new) }
+{
+    let bytes = read_whole(alloc, name, files)?;
+    match parse_catalog(alloc, bytes.as_slice()) {
+        Ok((catalog, rows)) => Ok(Opening { catalog, rows }),
+        Err(CatalogRefused::Memory) => Err(Exit::Memory),
+        Err(CatalogRefused::NotRead) => {
+            Err(Exit::Catalogue(CatalogueFault::Parse(CatalogRefused::NotRead)))
+        }
+    }
+}
+
+/// The whole content of a file.
+fn read_whole<F: Source>(alloc: Global, name: &str, files: &mut F) -> Result<Vec<u8>, Exit>
+    ensures content { IfOk result (λ bytes. IsContent (F.files files.old).contents name.now bytes.items) }
+    ensures within { IfOk result (λ bytes. length bytes.items ≤ FILE_LIMIT) }
+    ensures err { IfErr result (λ exit. IsReadExit (F.files files.old) name.now exit (F.files files.new)) }
+    ensures lasts { Lasts (F.files files.old) (F.files files.new) }
+{
+    let mut bytes = Vec::new(alloc);
+    match files.read_file(name, FILE_LIMIT, &mut bytes) {
+        FileGot::Whole => Ok(bytes),
+        FileGot::TooLong => Err(Exit::TooLong),
+        FileGot::Failed => Err(Exit::ReadFault),
+        FileGot::Memory => Err(Exit::Memory),
+    }
+}
