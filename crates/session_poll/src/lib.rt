@@ -14,6 +14,8 @@ mod session;
 mod start_up;
 mod state;
 mod step;
+#[cfg(test)]
+mod tests;
 
 pub use opening::Opening;
 pub use polled::Polled;

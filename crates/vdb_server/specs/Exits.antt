@@ -57,6 +57,12 @@ abbrev pub RefusedFor : CatalogueFault → List ℕ → Type 0
 RefusedFor (fault.Parse refused.NotRead) bytes = IsRefused bytes
 RefusedFor (fault.Parse refused.Memory) bytes = ⊥
 
+-- the file has a content within the limit, where the contents are told
+pub record IsReadable (files : Files) (name : List ℕ) : Type 0 where
+  pub bytes : List ℕ
+  pub content : IsContent files.contents name bytes
+  pub within : length bytes ≤ FILE_LIMIT
+
 -- the file was read whole, and the reader refused its bytes for another cause than memory
 pub record IsRefusedFile (files : Files) (name : List ℕ) (why : CatalogueFault) : Type 0 where
   pub bytes : List ℕ
@@ -83,7 +89,7 @@ IsOpeningExit before name other after = IsReadExit before name other after
 
 -- the exits of a replay of a file over a catalogue, with their causes
 abbrev pub IsRunExit : Files → List ℕ → List ℕ → Exit → Files → Held → Held → Type 0
-IsRunExit before catalogue stream exit.Done after out out' = Unit {0}
+IsRunExit before catalogue stream exit.Done after out out' = IsReadable before catalogue × IsReadable before stream
 IsRunExit before catalogue stream (exit.Catalogue why) after out out' = IsRefusedFile before catalogue why
 IsRunExit before catalogue stream exit.ReadFault after out out' = Rose before.faults after.faults
 IsRunExit before catalogue stream exit.WriteFault after out out' = Rose out.faults out'.faults

@@ -8,6 +8,8 @@ mod real_files;
 mod replay;
 mod sink;
 mod source;
+#[cfg(test)]
+mod tests;
 mod tool;
 mod writer_sink;
 

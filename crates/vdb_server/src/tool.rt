@@ -1,8 +1,8 @@
-ghost use Rattle.std.specs.Prelude.{◌≡◌, ◌≤◌, ◌↔◌, ◌⊎◌, false, map, length, string_bytes, IfOk, IfErr};
+ghost use Rattle.std.specs.Prelude.{◌≡◌, ◌≤◌, ◌↔◌, ◌⊎◌, false, map, length, string_bytes, is_some, OnOk, IfSome, IfOk, IfErr};
 ghost use Rattle.causes.specs.Faults.{Rose};
 ghost use Rattle.causes.specs.Told.{IsContent};
 ghost use Rattle.vdb_server.specs.Sources.{IsLong, Lasts};
-ghost use Rattle.vdb_server.specs.Exits.{is_replay, catalogue_name, stream_name, IsRefusedFile, IfCatalogue, IsReadExit, IsOpeningExit, IsRunExit, IsToolExit};
+ghost use Rattle.vdb_server.specs.Exits.{is_replay, catalogue_name, stream_name, IsReadable, IsRefusedFile, IfCatalogue, IsReadExit, IsOpeningExit, IsRunExit, IsToolExit};
 ghost use Rattle.vdb_server.specs.declared.exit.Exit.TheVariants as exit;
 
 use crate::exit::{CatalogueFault, Exit};
@@ -24,6 +24,9 @@ pub fn run_tool<F: Source, O: Sink>(
     files: &mut F,
     out: &mut O,
 ) -> Exit
+    ensures done { result ≡ exit.Done
+        → IsReadable (F.files files.old) (catalogue_name (map string_bytes words.now))
+        × IsReadable (F.files files.old) (stream_name (map string_bytes words.now)) }
     ensures usage { (result ≡ exit.Usage) ↔ (is_replay (map string_bytes words.now) ≡ false) }
     ensures read { result ≡ exit.ReadFault → Rose (F.files files.old).faults (F.files files.new).faults }
     ensures write { result ≡ exit.WriteFault → Rose (O.held out.old).faults (O.held out.new).faults }
@@ -34,11 +37,23 @@ pub fn run_tool<F: Source, O: Sink>(
     ensures served { IsToolExit result }
     ensures lasts { Lasts (F.files files.old) (F.files files.new) }
 {
+    match replay_names(words) {
+        Some((catalogue, stream)) => run_replay(alloc, catalogue, stream, files, out),
+        None => Exit::Usage,
+    }
+}
+
+/// The names of the two files, where the words are those of a replay.
+fn replay_names(words: &[String]) -> Option<(&str, &str)>
+    ensures is { is_some result ≡ is_replay (map string_bytes words.now) }
+    ensures catalogue { IfSome result (λ names. names.0.now ≡ catalogue_name (map string_bytes words.now)) }
+    ensures stream { IfSome result (λ names. names.1.now ≡ stream_name (map string_bytes words.now)) }
+{
     match words {
         [command, catalogue, stream] if command.as_str() == "replay" => {
-            run_replay(alloc, catalogue.as_str(), stream.as_str(), files, out)
+            Some((catalogue.as_str(), stream.as_str()))
         }
-        _ => Exit::Usage,
+        _ => None,
     }
 }
 
@@ -65,6 +80,7 @@ fn run_replay<F: Source, O: Sink>(
 
 /// Reads a catalogue, and lets go of its bytes.
 fn read_opening<F: Source>(alloc: Global, name: &str, files: &mut F) -> Result<Opening, Exit>
+    ensures readable { OnOk result (IsReadable (F.files files.old) name.now) }
     ensures err { IfErr result (λ exit. IsOpeningExit (F.files files.old) name.now exit (F.files files.new)) }
     ensures lasts { Lasts (F.files files.old) (F.files files.new) }
 {

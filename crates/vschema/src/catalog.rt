@@ -1,3 +1,6 @@
+ghost use Rattle.std.specs.Prelude.{◌≡◌, ◌^◌, ◌<◌, length, position};
+ghost use Rattle.std.specs.Str.{bytes_eq};
+
 use feature_expr::{Expr, Features, Kind, List, Memory, Name, TryCopy, Value};
 use std::alloc::Global;
 
@@ -46,6 +49,12 @@ impl Catalog {
             .position(|table| table.name == *name)?;
         u32::try_from(place).ok()
     }
+}
+
+fn place_of(tables: &[Table], name: &Name) -> Option<usize>
+    ensures { result ≡ position (λ table. bytes_eq table.name name.now) tables.now }
+{
+    tables.iter().position(|table| table.name == *name)
 }
 
 impl TryCopy for Column {

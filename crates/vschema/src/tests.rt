@@ -1,39 +1,70 @@
 use super::*;
-use feature_expr::{Expr, Kind, List, TryCopy, Value, print_expr};
+use feature_expr::{List, Name, TryCopy, Value, print_expr};
 use std::alloc::Global;
+use std::fmt::Write;
+use std::str;
 use std::test::Fail;
-
-const SMALL: &str =
-    "features A;\ntable t (id int8, name text);\nrow t (id 1, name 'ann');\nrow t (id 2, name 'bob') when A;\n";
 
 fn read(alloc: Global, text: &str) -> Result<(Catalog, List<OpeningRow>), CatalogRefused> {
     parse_catalog(alloc, text.as_bytes())
 }
 
+/// The tables with their columns, a line each, and the rows with their tables, lines, cells and conditions.
+fn shown(alloc: Global, catalog: &Catalog, rows: &List<OpeningRow>) -> Result<String, Fail> {
+    let mut text = String::new(alloc);
+    for table in catalog.tables.as_slice() {
+        push_name(&mut text, &table.name)?;
+        for column in table.columns.as_slice() {
+            push_name(&mut text, &column.name)?;
+            write!(text, "{:?} ", column.kind)?;
+        }
+    }
+    for row in rows.as_slice() {
+        write!(text, "| {}@{} ", row.table, row.line)?;
+        for cell in row.cells.as_slice() {
+            push_cell(&mut text, cell)?;
+        }
+        let cond = print_expr(alloc, &row.cond, &catalog.features)?;
+        text.push_str(str::from_utf8(cond.as_slice())?)?;
+    }
+    Ok(text)
+}
+
+fn push_name(text: &mut String, name: &Name) -> Result<(), Fail> {
+    text.push_str(str::from_utf8(name.as_slice())?)?;
+    text.push_str(" ")?;
+    Ok(())
+}
+
+fn push_cell(text: &mut String, cell: &Option<Value>) -> Result<(), Fail> {
+    match cell {
+        Some(Value::Int(number)) => write!(text, "{number} ")?,
+        Some(Value::Bool(truth)) => write!(text, "{truth} ")?,
+        Some(Value::Text(bytes)) => write!(text, "'{}' ", str::from_utf8(bytes.as_slice())?)?,
+        None => text.push_str("- ")?,
+    }
+    Ok(())
+}
+
+const MANY: &str =
+    "features A, b;\ntable t (id int8, Name text);\nrow T (ID 1, name 'ann');\n\nrow t (name 'it''s', id -2)\n  when not A and (b or A); table u (f bool); row u (f true) when b;";
+
 #[test]
-fn reads_features_tables_and_rows(rt: HostRuntime) -> Result<(), Fail> {
-    let (catalog, rows) = read(rt.alloc(), SMALL)?;
-    let catalog = catalog.copy(rt.alloc()).map_err(|_| "memory")?;
-    let rows = rows.copy(rt.alloc()).map_err(|_| "memory")?;
-    assert_eq!(rt; catalog.features.count(), 1);
-    assert!(rt; matches!(&catalog.model, Expr::True));
-    assert_eq!(rt; catalog.tables.len(), 1);
-    let table = catalog.tables.get(0).ok_or("no table")?;
-    assert_eq!(rt; table.name.as_slice(), b"t".as_slice());
-    let columns = table.columns.as_slice();
-    assert_eq!(rt; columns.len(), 2);
-    assert_eq!(rt; columns[0].name.as_slice(), b"id".as_slice());
-    assert_eq!(rt; columns[0].kind, Kind::Int);
-    assert_eq!(rt; columns[1].name.as_slice(), b"name".as_slice());
-    assert_eq!(rt; columns[1].kind, Kind::Text);
-    assert_eq!(rt; catalog.find_table(&table.name), Some(0));
-    let second = rows.get(1).ok_or("no row")?;
-    assert_eq!(rt; rows.len(), 2);
-    assert_eq!(rt; second.table, 0);
-    assert_eq!(rt; second.line, 4);
-    assert_eq!(rt; second.cells.get(0), Some(&Some(Value::Int(2))));
-    let cond = print_expr(rt.alloc(), &second.cond, &catalog.features).map_err(|_| "memory")?;
-    assert_eq!(rt; cond.as_slice(), b"A".as_slice());
+fn reads_tables_and_rows(rt: HostRuntime) -> Result<(), Fail> {
+    let (catalog, rows) = read(rt.alloc(), MANY)?;
+    let (catalog, rows) = (catalog.copy(rt.alloc())?, rows.copy(rt.alloc())?);
+    let text = shown(rt.alloc(), &catalog, &rows)?;
+    let wanted =
+        "t id Int name Text u f Bool | 0@3 1 'ann' true| 0@5 -2 'it's' not A and (b or A)| 1@6 true b";
+    assert_eq!(rt; text.as_str(), wanted);
+    assert_eq!(rt;
+        catalog.find_table(&Name::from_slice(rt.alloc(), b"u")?),
+        Some(1)
+    );
+    assert_eq!(rt;
+        catalog.find_table(&Name::from_slice(rt.alloc(), b"U")?),
+        None
+    );
     Ok(())
 }
 

@@ -1,0 +1,202 @@
+use crate::exit::{CatalogueFault, Exit, fault_line, status};
+use crate::mem_files::{MemFile, MemFiles};
+use crate::mem_sink::MemSink;
+use crate::tool::{FILE_LIMIT, run_tool};
+use feature_expr::{List, Memory, Text};
+use std::alloc::{AllocError, Global};
+use std::test::Fail;
+use vschema::CatalogRefused;
+
+const CATALOGUE: &[u8] =
+    b"features A;\ntable t (id int8, name text);\nrow t (id 1, name 'ann');\nrow t (id 2, name 'bob') when A;\n";
+
+const START_UP: &[u8] = b"\x00\x00\x00\x10\x00\x03\x00\x00user\x00u\x00\x00";
+
+/// The part of every start-up reply behind the parameters.
+const READY: &[u8] = b"K\x00\x00\x00\x0c\x00\x00\x00\x01\x00\x00\x00\x00Z\x00\x00\x00\x05I";
+
+/// What a client sends behind the start-up, and what it gets behind that one's reply.
+const REPLIES: [(&[u8], &[u8]); 9] = [
+    // An unknown table.
+    (
+        b"Q\x00\x00\x00\x06u\x00X\x00\x00\x00\x04",
+        b"S\x00\x00\x00\x13vdb_snapshot\x000\x00E\x00\x00\x00\x30SERROR\x00VERROR\x00C42P01\x00Mtable u is not known\x00\x00Z\x00\x00\x00\x05I",
+    ),
+    // Another text than one name.
+    (
+        b"Q\x00\x00\x00\x09t, t\x00X\x00\x00\x00\x04",
+        b"E\x00\x00\x00\x29SFATAL\x00VFATAL\x00C0A000\x00Mnot built yet\x00\x00",
+    ),
+    (
+        b"Q\x00\x00\x00\x05\x00",
+        b"E\x00\x00\x00\x29SFATAL\x00VFATAL\x00C0A000\x00Mnot built yet\x00\x00",
+    ),
+    (
+        b"Q\x00\x00\x00\x08t;;\x00",
+        b"E\x00\x00\x00\x29SFATAL\x00VFATAL\x00C0A000\x00Mnot built yet\x00\x00",
+    ),
+    (
+        b"Q\x00\x00\x00\x0bselect\x00",
+        b"E\x00\x00\x00\x29SFATAL\x00VFATAL\x00C0A000\x00Mnot built yet\x00\x00",
+    ),
+    (
+        b"Q\x00\x00\x00\x07\xc3\x28\x00",
+        b"E\x00\x00\x00\x29SFATAL\x00VFATAL\x00C0A000\x00Mnot built yet\x00\x00",
+    ),
+    // A message that isn't known yet, and a length that none has.
+    (
+        b"S\x00\x00\x00\x04",
+        b"E\x00\x00\x00\x29SFATAL\x00VFATAL\x00C0A000\x00Mnot built yet\x00\x00",
+    ),
+    (
+        b"Q\x00\x00\x00\x03",
+        b"E\x00\x00\x00\x29SFATAL\x00VFATAL\x00C0A000\x00Mnot built yet\x00\x00",
+    ),
+    // A message that the end of the file cuts.
+    (b"Q\x00\x10\x00\x04", b""),
+];
+
+/// Runs `replay` over a catalogue and a stream in memory, where some calls of the files and of the sink fail.
+fn replayed(
+    alloc: Global,
+    catalogue: &[u8],
+    stream: &[u8],
+    failing_reads: &[u64],
+    failing_puts: &[u64],
+) -> Result<(Exit, Vec<u8>), Fail> {
+    let mut files = Vec::new(alloc);
+    files.push(file(alloc, b"c", catalogue)?)?;
+    files.push(file(alloc, b"s", stream)?)?;
+    let failing = List::from_slice(alloc, failing_reads)?;
+    let mut files = MemFiles::new(List::from_vec(files), failing);
+    let mut out = MemSink::new(alloc, List::from_slice(alloc, failing_puts)?);
+    let words = words_of(alloc, &["replay", "c", "s"])?;
+    let exit = run_tool(alloc, words.as_slice(), &mut files, &mut out);
+    let bytes = Vec::from_slice(alloc, out.bytes())?;
+    Ok((exit, bytes))
+}
+
+fn file(alloc: Global, name: &[u8], bytes: &[u8]) -> Result<MemFile, Memory> {
+    let name = Text::from_slice(alloc, name)?;
+    let bytes = Text::from_slice(alloc, bytes)?;
+    Ok(MemFile { name, bytes })
+}
+
+fn words_of(alloc: Global, words: &[&str]) -> Result<Vec<String>, AllocError> {
+    let mut owned = Vec::new(alloc);
+    for word in words {
+        owned.push(String::from_str(alloc, word)?)?;
+    }
+    Ok(owned)
+}
+
+fn joined(alloc: Global, first: &[u8], second: &[u8]) -> Result<Vec<u8>, AllocError> {
+    let mut all = Vec::from_slice(alloc, first)?;
+    all.extend_from_slice(second)?;
+    Ok(all)
+}
+
+#[test]
+fn each_message_has_its_reply(rt: HostRuntime) -> Result<(), Fail> {
+    for (sent, reply) in REPLIES {
+        let stream = joined(rt.alloc(), START_UP, sent)?;
+        let (exit, out) = replayed(rt.alloc(), CATALOGUE, stream.as_slice(), &[], &[])?;
+        let tail = joined(rt.alloc(), READY, reply)?;
+        assert_eq!(rt; exit, Exit::Done);
+        assert!(rt;
+            out.as_slice().ends_with(tail.as_slice()),
+            "{sent:?} {out:?}"
+        );
+    }
+    Ok(())
+}
+
+/// Start-up packets that aren't taken.
+const NO_START: [&[u8]; 6] = [
+    b"\x00\x00\x00\x09\x00\x03\x00\x00\x00",
+    b"\x00\x00\x00\x08\x04\xd2\x16\x2f",
+    b"\x00\x00\x00\x0f\x00\x03\x00\x00user\x00\x00\x00",
+    b"\x00\x00\x00\x1e\x00\x03\x00\x00user\x00u\x00replication\x001\x00\x00",
+    b"\x00\x00\x00\x19\x00\x03\x00\x00user\x00u\x00_pq_.x\x001\x00\x00",
+    b"\x00\x00\x00\x07",
+];
+
+#[test]
+fn another_start_up_is_not_built_yet(rt: HostRuntime) -> Result<(), Fail> {
+    let refused: &[u8] = b"E\x00\x00\x00\x29SFATAL\x00VFATAL\x00C0A000\x00Mnot built yet\x00\x00";
+    for packet in NO_START {
+        let (exit, out) = replayed(rt.alloc(), CATALOGUE, packet, &[], &[])?;
+        assert_eq!(rt; exit, Exit::Done);
+        assert_eq!(rt; out.as_slice(), refused, "{packet:?}");
+    }
+    Ok(())
+}
+
+#[test]
+fn a_fault_ends_the_program_with_its_exit(rt: HostRuntime) -> Result<(), Fail> {
+    let run = |catalogue: &[u8], reads: &[u64], puts: &[u64]| {
+        replayed(rt.alloc(), catalogue, START_UP, reads, puts)
+    };
+    let refused = Exit::Catalogue(CatalogueFault::Parse(CatalogRefused::NotRead));
+    assert_eq!(rt; run(b"features", &[], &[])?.0, refused);
+    assert_eq!(rt; run(CATALOGUE, &[0], &[])?.0, Exit::ReadFault);
+    assert_eq!(rt; run(CATALOGUE, &[1], &[])?.0, Exit::ReadFault);
+    let (exit, out) = run(CATALOGUE, &[], &[0])?;
+    assert_eq!(rt; exit, Exit::WriteFault);
+    assert_eq!(rt; out.as_slice(), b"".as_slice());
+    Ok(())
+}
+
+#[test]
+fn other_words_are_refused(rt: HostRuntime) -> Result<(), Fail> {
+    let lists: [&[&str]; 5] = [
+        &[],
+        &["replay"],
+        &["replay", "c"],
+        &["Replay", "c", "s"],
+        &["replay", "c", "s", "t"],
+    ];
+    for list in lists {
+        let words = words_of(rt.alloc(), list)?;
+        let mut files = MemFiles::new(List::new(rt.alloc()), List::new(rt.alloc()));
+        let mut out = MemSink::new(rt.alloc(), List::new(rt.alloc()));
+        let exit = run_tool(rt.alloc(), words.as_slice(), &mut files, &mut out);
+        assert_eq!(rt; exit, Exit::Usage, "{list:?}");
+    }
+    Ok(())
+}
+
+#[test]
+fn a_file_above_the_limit_is_too_long(rt: HostRuntime) -> Result<(), Fail> {
+    let long = vec![in rt.alloc(); b' '; FILE_LIMIT as usize + 1]?;
+    let (exit, out) = replayed(rt.alloc(), CATALOGUE, long.as_slice(), &[], &[])?;
+    assert_eq!(rt; exit, Exit::TooLong);
+    assert_eq!(rt; out.as_slice(), b"".as_slice());
+    Ok(())
+}
+
+#[test]
+fn each_exit_has_its_status_and_line(rt: HostRuntime) -> Result<(), Fail> {
+    let exits: [(Exit, u8, &[u8]); 10] = [
+        (Exit::Done, 0, b""),
+        (Exit::Usage, 1, b"usage"),
+        (
+            Exit::Catalogue(CatalogueFault::Parse(CatalogRefused::NotRead)),
+            2,
+            b"catalogue: refused",
+        ),
+        (Exit::ReadFault, 3, b"read fault"),
+        (Exit::WriteFault, 4, b"write fault"),
+        (Exit::LinksFault, 5, b"links fault"),
+        (Exit::TurnsOut, 6, b"turns out"),
+        (Exit::Memory, 7, b"out of memory"),
+        (Exit::TooLong, 8, b"file too long"),
+        (Exit::KeeperFault, 9, b"keeper fault"),
+    ];
+    for (exit, number, line) in exits {
+        assert_eq!(rt; status(&exit), number);
+        let told = fault_line(rt.alloc(), &exit).map_err(|_| "memory")?;
+        assert_eq!(rt; told.as_slice(), line);
+    }
+    Ok(())
+}
