@@ -1,3 +1,4 @@
 mod ChainLaws
 mod ConfigBits
 mod FeatureLists
+mod PrintLaws

@@ -3,6 +3,8 @@ pub mod Config
 pub mod ConfigLaws
 pub mod Expressions
 pub mod Names
+pub mod Printing
 pub mod Reading
+pub mod Rests
 pub mod Satisfaction
 pub mod Value
