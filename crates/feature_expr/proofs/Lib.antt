@@ -1,4 +1,7 @@
+mod BlankLaws
 mod ChainLaws
 mod ConfigBits
 mod FeatureLists
+mod PlaceLaws
 mod PrintLaws
+mod QuoteLaws

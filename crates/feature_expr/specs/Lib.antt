@@ -7,4 +7,5 @@ pub mod Printing
 pub mod Reading
 pub mod Rests
 pub mod Satisfaction
+pub mod Tokens
 pub mod Value
