@@ -1,10 +1,11 @@
 pub mod Chains
 pub mod Config
 pub mod ConfigLaws
+pub mod ExprGrammar
 pub mod Expressions
+pub mod Grammar
 pub mod Names
 pub mod Printing
-pub mod Reading
 pub mod Rests
 pub mod Satisfaction
 pub mod Tokens

@@ -1,8 +1,9 @@
 -- The tokens of a text, which is the list of its bytes in UTF-8. A place among the bytes counts from 0.
-use Rattle.std.specs.Prelude.{◌≡◌, ℕ, ◌+◌, ◌-◌, ◌*◌, ◌^◌, ◌<◌, ◌==◌, Bool, true, false, not, ◌&&◌, ◌||◌, if◌then◌else◌, List, [], ◌∷◌, length, take, drop, Option, Some, None, ℤ, pos, neg_ℤ, nat_lt, nat_le, slice_index, count_by, fold}
+use Rattle.std.specs.Prelude.{◌≡◌, ℕ, ◌+◌, ◌-◌, ◌*◌, ◌^◌, ◌<◌, ◌==◌, Bool, true, false, not, ◌&&◌, ◌||◌, if◌then◌else◌, List, [], ◌∷◌, length, take, drop, Option, Some, None, ℤ, pos, neg_ℤ, nat_lt, nat_le, slice_index, slice_get, count_by, fold}
+use Rattle.std.specs.Str.{bytes_eq}
 use Rattle.std.specs.List.{prefix_len, slice_range}
 use Rattle.std.specs.Char.{is_ascii_digit}
-use Rattle.feature_expr.specs.Names.{starts_word, continues_word}
+use Rattle.feature_expr.specs.Names.{starts_word, continues_word, same_word_as}
 use Rattle.feature_expr.specs.declared.token.TheConstants.{PARAMETER_LIMIT}
 use Rattle.feature_expr.specs.declared.token.TokenKind.{TokenKind}
 use Rattle.feature_expr.specs.declared.token.TokenKind.TheVariants as kind
@@ -156,3 +157,39 @@ StandAt text at (token ∷ tokens) =
 -- all the tokens of a text
 pub record AreTokens (text : List ℕ) (tokens : List Token) : Type 0 where
   pub stand : StandAt text (blank_end text 0) tokens
+
+-- the bytes of a token
+abbrev pub bytes_of : List ℕ → Token → List ℕ
+bytes_of text token = slice_range text token.start token.end
+
+abbrev pub is_word : TokenKind → Bool
+is_word kind.Word = true
+is_word _ = false
+
+abbrev pub is_mark : TokenKind → Bool
+is_mark kind.Sign = true
+is_mark _ = false
+
+abbrev pub is_word_of_text : List ℕ → List ℕ → Option Token → Bool
+is_word_of_text text word (Some token) = is_word token.kind && same_word_as (bytes_of text token) word
+is_word_of_text text word None = false
+
+abbrev pub is_mark_of_text : List ℕ → List ℕ → Option Token → Bool
+is_mark_of_text text mark (Some token) = is_mark token.kind && bytes_eq (bytes_of text token) mark
+is_mark_of_text text mark None = false
+
+-- whether the token at a place is this word, in any case
+abbrev pub is_word_at : List ℕ → List Token → ℕ → List ℕ → Bool
+is_word_at text tokens at word = is_word_of_text text word (slice_get tokens at)
+
+-- whether it is this sign
+abbrev pub is_mark_at : List ℕ → List Token → ℕ → List ℕ → Bool
+is_mark_at text tokens at mark = is_mark_of_text text mark (slice_get tokens at)
+
+-- the place of the token with this number, or one past the last character where there is none
+abbrev pub place_of : List ℕ → Option Token → ℕ
+place_of text (Some token) = token.place
+place_of text None = character_at text (length text)
+
+abbrev pub place_at : List ℕ → List Token → ℕ → ℕ
+place_at text tokens at = place_of text (slice_get tokens at)
