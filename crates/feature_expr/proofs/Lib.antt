@@ -1,3 +1,11 @@
+mod BlankLaws
+mod ChainForms
 mod ChainLaws
 mod ConfigBits
+mod ExprLaws
 mod FeatureLists
+mod Machine
+mod NegationLaws
+mod PlaceLaws
+mod PrintLaws
+mod QuoteLaws

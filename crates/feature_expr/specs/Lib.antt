@@ -1,8 +1,12 @@
 pub mod Chains
 pub mod Config
 pub mod ConfigLaws
+pub mod ExprGrammar
 pub mod Expressions
+pub mod Grammar
 pub mod Names
-pub mod Reading
+pub mod Printing
+pub mod Rests
 pub mod Satisfaction
+pub mod Tokens
 pub mod Value

@@ -100,7 +100,8 @@ pub fn is_name_word(bytes: &[u8]) -> bool
     bytes.len() <= NAME_LIMIT && is_word(bytes) && !is_reserved(bytes)
 }
 
-fn is_word_start(byte: u8) -> bool
+/// Whether a byte is a letter or `_`.
+pub fn is_word_start(byte: u8) -> bool
     ensures { result ≡ starts_word byte }
 {
     byte.is_ascii_alphabetic() || byte == b'_'

@@ -29,3 +29,6 @@ pub use print::print_expr;
 pub use text::{Name, Text};
 pub use token::{Token, TokenKind, end_line, end_place, tokens};
 pub use value::{Kind, Value};
+
+#[cfg(test)]
+mod tests;

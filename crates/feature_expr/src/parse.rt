@@ -1,5 +1,8 @@
-ghost use Rattle.std.specs.Prelude.{◌≡◌, ◌<◌, ◌≤◌, ◌+◌, length, IfOk, IsTrue};
-ghost use Rattle.feature_expr.specs.Reading.{IsBegin};
+ghost use Rattle.std.specs.Prelude.{◌≡◌, ℕ, true, false, ◌<◌, ◌≤◌, ◌+◌, length, slice_get, IfOk, IfErr, IsTrue};
+ghost use Rattle.std.specs.Option.{option_copied};
+ghost use Rattle.feature_expr.specs.Tokens.{bytes_of, is_word_at, is_mark_at, place_at, AreTokens};
+ghost use Rattle.feature_expr.specs.ExprGrammar.{Disjunction, Conjunction, Negation, sign_of_kind, sign_of_word, sign_of_mark, sign_at, feature_at, IsToken, IsRead, IsRefused, Spells};
+ghost use Rattle.feature_expr.specs.declared.parse.Fault.TheVariants as fault;
 
 use crate::expr::{Expr, make_and, make_not, make_or};
 use crate::features::{Features, is_name_word, same_word};
@@ -86,7 +89,9 @@ fn placed(fault: Fault, text: &str, tokens: &[Token]) -> ExprRefused {
 }
 
 /// The place of a token, or one past the last character where there is none.
-pub fn token_place(text: &str, tokens: &[Token], at: usize) -> u64 {
+pub fn token_place(text: &str, tokens: &[Token], at: usize) -> u64
+    ensures { result ≡ place_at text.now tokens.now at }
+{
     match tokens.get(at) {
         Some(token) => token.place,
         None => end_place(text),
@@ -103,7 +108,8 @@ fn whole_expression(reading: &Reading<'_>) -> Result<Expr, Fault> {
 
 /// Whether a token is this word, in any case.
 pub fn is_word_at(reading: &Reading<'_>, at: usize, word: &[u8]) -> bool
-    ensures { IsTrue result → at < length reading.now.tokens.now }
+    ensures exact { result ≡ is_word_at reading.now.text.now reading.now.tokens.now at word.now }
+    ensures within { IsTrue result → at < length reading.now.tokens.now }
 {
     match reading.tokens.get(at) {
         Some(token) => {
@@ -115,7 +121,8 @@ pub fn is_word_at(reading: &Reading<'_>, at: usize, word: &[u8]) -> bool
 
 /// Whether a token is this sign.
 pub fn is_sign_at(reading: &Reading<'_>, at: usize, sign: &[u8]) -> bool
-    ensures { IsTrue result → at < length reading.now.tokens.now }
+    ensures exact { result ≡ is_mark_at reading.now.text.now reading.now.tokens.now at sign.now }
+    ensures within { IsTrue result → at < length reading.now.tokens.now }
 {
     match reading.tokens.get(at) {
         Some(token) => {
@@ -125,45 +132,99 @@ pub fn is_sign_at(reading: &Reading<'_>, at: usize, sign: &[u8]) -> bool
     }
 }
 
-/// What a part of an expression begins with.
-enum Begin {
+/// What a token is to the grammar of expressions.
+#[derive(Clone, Copy, PartialEq, Eq)]
+enum Sign {
+    Or,
+    And,
     Not,
     True,
     False,
-    Feature(u8),
-    UnknownFeature,
+    Feature,
     Open,
+    Close,
+    End,
     Other,
 }
 
-fn begin_at(reading: &Reading<'_>, at: usize) -> Begin
-    ensures { IsBegin result → at < length reading.now.tokens.now }
+/// What the token at a place is. Behind the last token stands the end of the text.
+#[tactic(auto, unfolding(crate::specs::ExprGrammar::sign_at))]
+fn sign_at(reading: &Reading<'_>, at: usize) -> Sign
+    requires { at ≤ length reading.now.tokens.now }
+    ensures exact { result ≡ sign_at reading.now.text.now reading.now.tokens.now at }
+    ensures within { IsToken result → at < length reading.now.tokens.now }
 {
-    let Some(token) = reading.tokens.get(at) else {
-        return Begin::Other;
-    };
-    let bytes = token.bytes(reading.text);
-    match &token.kind {
-        TokenKind::Word => word_begin(bytes, reading.features),
-        TokenKind::Sign if bytes == b"(".as_slice() => Begin::Open,
-        _ => Begin::Other,
+    match reading.tokens.get(at) {
+        Some(token) => sign_of(token, reading.text),
+        None => Sign::End,
     }
 }
 
-fn word_begin(word: &[u8], features: &Features) -> Begin {
-    if same_word(word, b"not") {
-        Begin::Not
+/// Whether the token at a place is this one.
+fn is_sign(reading: &Reading<'_>, at: usize, wanted: Sign) -> bool
+    requires { at ≤ length reading.now.tokens.now }
+    ensures yes { result ≡ true → sign_at reading.now.text.now reading.now.tokens.now at ≡ wanted }
+    ensures no { result ≡ false → sign_at reading.now.text.now reading.now.tokens.now at ≡ wanted → ⊥ }
+    ensures within { result ≡ true → IsToken wanted → at < length reading.now.tokens.now }
+{
+    sign_at(reading, at) == wanted
+}
+
+fn sign_of(token: &Token, text: &[u8]) -> Sign
+    ensures { result ≡ sign_of_kind token.now.kind (bytes_of text.now token.now) }
+{
+    match &token.kind {
+        TokenKind::Word => sign_of_word(token.bytes(text)),
+        TokenKind::Sign => sign_of_mark(token.bytes(text)),
+        _ => Sign::Other,
+    }
+}
+
+fn sign_of_word(word: &[u8]) -> Sign
+    ensures { result ≡ sign_of_word word.now }
+{
+    if same_word(word, b"or") {
+        Sign::Or
+    } else if same_word(word, b"and") {
+        Sign::And
+    } else if same_word(word, b"not") {
+        Sign::Not
     } else if same_word(word, b"true") {
-        Begin::True
+        Sign::True
     } else if same_word(word, b"false") {
-        Begin::False
-    } else if !is_name_word(word) {
-        Begin::Other
+        Sign::False
+    } else if is_name_word(word) {
+        Sign::Feature
     } else {
-        match features.find_word(word) {
-            Some(feature) => Begin::Feature(feature),
-            None => Begin::UnknownFeature,
-        }
+        Sign::Other
+    }
+}
+
+fn sign_of_mark(mark: &[u8]) -> Sign
+    ensures { result ≡ sign_of_mark mark.now }
+{
+    if mark == b"(".as_slice() {
+        Sign::Open
+    } else if mark == b")".as_slice() {
+        Sign::Close
+    } else {
+        Sign::Other
+    }
+}
+
+fn token_at<'a>(reading: &Reading<'a>, at: usize) -> Option<&'a Token>
+    ensures { option_copied result ≡ slice_get reading.now.tokens.now at }
+{
+    reading.tokens.get(at)
+}
+
+/// The number of the feature that the token at a place names.
+fn feature_at(reading: &Reading<'_>, at: usize) -> Option<u8>
+    ensures { result ≡ feature_at reading.now.features.now reading.now.text.now reading.now.tokens.now at }
+{
+    match token_at(reading, at) {
+        Some(token) => reading.features.find_word(token.bytes(reading.text)),
+        None => None,
     }
 }
 
@@ -172,10 +233,13 @@ fn word_begin(word: &[u8], features: &Features) -> Begin {
 #[cycle(expression)]
 pub fn expression(reading: &Reading<'_>, nesting: u32, at: usize) -> Result<(Expr, usize), Fault>
     requires { at ≤ length reading.now.tokens.now }
-    ensures { IfOk result (λ found. (at < found.1) × (found.1 ≤ length reading.now.tokens.now)) }
+    ensures order { IfOk result (λ found. (at < found.1) × (found.1 ≤ length reading.now.tokens.now)) }
+    ensures read { IfOk result (λ found. IsRead reading.now.text.now reading.now.tokens.now reading.now.max_nesting (Disjunction nesting) at found.1) }
+    ensures refused { IfErr result (IsRefused reading.now.features.now reading.now.text.now reading.now.tokens.now reading.now.max_nesting (Disjunction nesting) at) }
+    ensures spelled { IfOk result (λ found. Spells reading.now.features.now reading.now.text.now reading.now.tokens.now (Disjunction nesting) at found.0 found.1) }
 {
     let (mut left, mut end) = conjunction(reading, nesting, at)?;
-    'links: while is_word_at(reading, end, b"or") {
+    'links: while is_sign(reading, end, Sign::Or) {
         let (right, next) = conjunction(reading, nesting, end + 1)?;
         left = make_or(reading.alloc, left, right)?;
         end = next;
@@ -186,10 +250,13 @@ pub fn expression(reading: &Reading<'_>, nesting: u32, at: usize) -> Result<(Exp
 #[cycle(expression)]
 fn conjunction(reading: &Reading<'_>, nesting: u32, at: usize) -> Result<(Expr, usize), Fault>
     requires { at ≤ length reading.now.tokens.now }
-    ensures { IfOk result (λ found. (at < found.1) × (found.1 ≤ length reading.now.tokens.now)) }
+    ensures order { IfOk result (λ found. (at < found.1) × (found.1 ≤ length reading.now.tokens.now)) }
+    ensures read { IfOk result (λ found. IsRead reading.now.text.now reading.now.tokens.now reading.now.max_nesting (Conjunction nesting) at found.1) }
+    ensures refused { IfErr result (IsRefused reading.now.features.now reading.now.text.now reading.now.tokens.now reading.now.max_nesting (Conjunction nesting) at) }
+    ensures spelled { IfOk result (λ found. Spells reading.now.features.now reading.now.text.now reading.now.tokens.now (Conjunction nesting) at found.0 found.1) }
 {
     let (mut left, mut end) = negation(reading, nesting, at)?;
-    'links: while is_word_at(reading, end, b"and") {
+    'links: while is_sign(reading, end, Sign::And) {
         let (right, next) = negation(reading, nesting, end + 1)?;
         left = make_and(reading.alloc, left, right)?;
         end = next;
@@ -200,32 +267,41 @@ fn conjunction(reading: &Reading<'_>, nesting: u32, at: usize) -> Result<(Expr, 
 #[cycle(expression)]
 fn negation(reading: &Reading<'_>, nesting: u32, at: usize) -> Result<(Expr, usize), Fault>
     requires { at ≤ length reading.now.tokens.now }
-    ensures { IfOk result (λ found. (at < found.1) × (found.1 ≤ length reading.now.tokens.now)) }
+    ensures order { IfOk result (λ found. (at < found.1) × (found.1 ≤ length reading.now.tokens.now)) }
+    ensures read { IfOk result (λ found. IsRead reading.now.text.now reading.now.tokens.now reading.now.max_nesting (Negation nesting) at found.1) }
+    ensures refused { IfErr result (IsRefused reading.now.features.now reading.now.text.now reading.now.tokens.now reading.now.max_nesting (Negation nesting) at) }
+    ensures spelled { IfOk result (λ found. Spells reading.now.features.now reading.now.text.now reading.now.tokens.now (Negation nesting) at found.0 found.1) }
 {
-    match begin_at(reading, at) {
-        Begin::Not => {
+    match sign_at(reading, at) {
+        Sign::Not => {
             let nesting = deeper(reading, nesting, at)?;
             let (inner, end) = negation(reading, nesting, at + 1)?;
             Ok((make_not(reading.alloc, inner)?, end))
         }
-        Begin::True => Ok((Expr::True, at + 1)),
-        Begin::False => Ok((Expr::False, at + 1)),
-        Begin::Feature(feature) => Ok((Expr::Feature(feature), at + 1)),
-        Begin::UnknownFeature => Err(Fault::UnknownFeature(at)),
-        Begin::Open => {
+        Sign::True => Ok((Expr::True, at + 1)),
+        Sign::False => Ok((Expr::False, at + 1)),
+        Sign::Feature => match feature_at(reading, at) {
+            Some(feature) => Ok((Expr::Feature(feature), at + 1)),
+            None => Err(Fault::UnknownFeature(at)),
+        },
+        Sign::Open => {
             let nesting = deeper(reading, nesting, at)?;
             let (inner, end) = expression(reading, nesting, at + 1)?;
-            if !is_sign_at(reading, end, b")") {
-                return Err(Fault::Syntax(end));
+            if is_sign(reading, end, Sign::Close) {
+                Ok((inner, end + 1))
+            } else {
+                Err(Fault::Syntax(end))
             }
-            Ok((inner, end + 1))
         }
-        Begin::Other => Err(Fault::Syntax(at)),
+        _ => Err(Fault::Syntax(at)),
     }
 }
 
 /// The nesting behind a token that opens one more level.
-pub fn deeper(reading: &Reading<'_>, nesting: u32, at: usize) -> Result<u32, Fault> {
+pub fn deeper(reading: &Reading<'_>, nesting: u32, at: usize) -> Result<u32, Fault>
+    ensures ok { IfOk result (λ next. (next ≡ nesting + 1) × (nesting < reading.now.max_nesting)) }
+    ensures err { IfErr result (λ why. (why ≡ fault.TooDeep at) × (reading.now.max_nesting ≤ nesting)) }
+{
     if nesting >= reading.max_nesting {
         return Err(Fault::TooDeep(at));
     }

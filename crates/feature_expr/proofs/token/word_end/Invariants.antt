@@ -1,8 +1,10 @@
-use Rattle.std.proofs.Common.{length, ◌-◌, ◌≤◌}
+use Rattle.feature_expr.specs.Names.{continues_word}
+use Rattle.std.proofs.Common.{◌≡◌, length, ◌-◌, ◌≤◌}
+use Rattle.feature_expr.specs.Tokens.{run_end}
 use Rattle.feature_expr.proofs.token.word_end.Given as goal
 
 abbrev pub invariant-loop-at : goal.invariant-loop-at
-invariant-loop-at l = (l.from ≤ l.at) × (l.at ≤ length l.bytes)
+invariant-loop-at l = (run_end continues_word l.bytes l.at ≡ run_end continues_word l.bytes l.from) × (l.from ≤ l.at) × (l.at ≤ length l.bytes)
 
 abbrev pub decreases-loop-at : goal.decreases-loop-at
 decreases-loop-at l = length l.bytes - l.at

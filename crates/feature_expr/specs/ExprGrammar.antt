@@ -1,0 +1,122 @@
+-- The grammar of feature expressions, over the tokens of a text, and what they spell.
+use Rattle.std.specs.Prelude.{◌≡◌, ℕ, ◌+◌, ◌<◌, ◌≤◌, ◌==◌, if◌then◌else◌, List, [], ◌∷◌, Option, Some, None, codes, length, slice_get, nat_lt, position}
+use Rattle.std.specs.Str.{bytes_eq}
+use Rattle.feature_expr.specs.Names.{same_word_as, is_name_of}
+use Rattle.feature_expr.specs.Tokens.{bytes_of}
+use Rattle.feature_expr.specs.Grammar.{Symbol, Terminal, Nonterminal, Leads, Reaches, FaultAt}
+use Rattle.feature_expr.specs.declared.expr.Expr.{Expr}
+use Rattle.feature_expr.specs.declared.expr.Expr as e
+use Rattle.feature_expr.specs.declared.parse.Fault.{Fault}
+use Rattle.feature_expr.specs.declared.parse.Fault.TheVariants as fault
+use Rattle.feature_expr.specs.declared.parse.Sign.{Sign}
+use Rattle.feature_expr.specs.declared.parse.Sign.TheVariants as sign
+use Rattle.feature_expr.specs.declared.token.TokenKind.{TokenKind}
+use Rattle.feature_expr.specs.declared.token.TokenKind.TheVariants as kind
+use Rattle.feature_expr.specs.declared.token.Token.{Token}
+
+-- the parts, each with the number of brackets and `not` that are open round it
+pub data Part : Type 0 where
+  Disjunction : (nesting : ℕ) → Part
+  MoreOr : (nesting : ℕ) → Part
+  Conjunction : (nesting : ℕ) → Part
+  MoreAnd : (nesting : ℕ) → Part
+  Negation : (nesting : ℕ) → Part
+
+abbrev pub nesting_of : Part → ℕ
+nesting_of (Disjunction n) = n
+nesting_of (MoreOr n) = n
+nesting_of (Conjunction n) = n
+nesting_of (MoreAnd n) = n
+nesting_of (Negation n) = n
+
+-- what opens one more level, where that is within the limit
+abbrev pub nested : ℕ → List (List (Symbol Part Sign))
+nested nesting =
+    (Terminal sign.Not ∷ Nonterminal (Negation (nesting + 1)) ∷ []) ∷ (Terminal sign.Open ∷ Nonterminal (Disjunction (nesting + 1)) ∷ Terminal sign.Close ∷ []) ∷ []
+
+-- the forms of each part, where nesting has this limit
+abbrev pub forms : ℕ → Part → List (List (Symbol Part Sign))
+forms limit (Disjunction n) = (Nonterminal (Conjunction n) ∷ Nonterminal (MoreOr n) ∷ []) ∷ []
+forms limit (MoreOr n) = [] ∷ (Terminal sign.Or ∷ Nonterminal (Conjunction n) ∷ Nonterminal (MoreOr n) ∷ []) ∷ []
+forms limit (Conjunction n) = (Nonterminal (Negation n) ∷ Nonterminal (MoreAnd n) ∷ []) ∷ []
+forms limit (MoreAnd n) = [] ∷ (Terminal sign.And ∷ Nonterminal (Negation n) ∷ Nonterminal (MoreAnd n) ∷ []) ∷ []
+forms limit (Negation n) =
+    (Terminal sign.True ∷ []) ∷ (Terminal sign.False ∷ []) ∷ (Terminal sign.Feature ∷ []) ∷ (if nat_lt n limit then nested n else [])
+
+-- the signs that would go on a part which seems to have ended
+abbrev pub signs_of : Part → List Sign
+signs_of (Disjunction n) = sign.Or ∷ sign.And ∷ []
+signs_of (MoreOr n) = sign.Or ∷ sign.And ∷ []
+signs_of (Conjunction n) = sign.And ∷ []
+signs_of (MoreAnd n) = sign.And ∷ []
+signs_of (Negation n) = []
+
+-- a word is a keyword or a name
+abbrev pub sign_of_word : List ℕ → Sign
+sign_of_word word =
+    if same_word_as word (codes "or") then sign.Or else
+    (if same_word_as word (codes "and") then sign.And else
+    (if same_word_as word (codes "not") then sign.Not else
+    (if same_word_as word (codes "true") then sign.True else
+    (if same_word_as word (codes "false") then sign.False else
+    (if is_name_of word then sign.Feature else sign.Other)))))
+
+abbrev pub sign_of_mark : List ℕ → Sign
+sign_of_mark mark = if bytes_eq mark (codes "(") then sign.Open else (if bytes_eq mark (codes ")") then sign.Close else sign.Other)
+
+abbrev pub sign_of_kind : TokenKind → List ℕ → Sign
+sign_of_kind kind.Word bytes = sign_of_word bytes
+sign_of_kind kind.Sign bytes = sign_of_mark bytes
+sign_of_kind _ bytes = sign.Other
+
+abbrev pub sign_of_token : List ℕ → List Token → ℕ → Option Token → Sign
+sign_of_token text tokens at (Some token) = sign_of_kind token.kind (bytes_of text token)
+sign_of_token text tokens at None = if at == length tokens then sign.End else sign.Other
+
+-- the sign that the token at a place is; one behind the last stands the end of the text
+unfoldable pub sign_at : List ℕ → List Token → ℕ → Sign
+sign_at text tokens at = sign_of_token text tokens at (slice_get tokens at)
+
+-- it is a token's
+abbrev pub IsToken : Sign → Type 0
+IsToken sign.End = ⊥
+IsToken sign.Other = Unit {0}
+IsToken _ = Unit {0}
+
+abbrev pub fits : List ℕ → List Token → Sign → ℕ → Type 0
+fits text tokens wanted at = sign_at text tokens at ≡ wanted
+
+-- the number of the feature that the token at a place names
+abbrev pub feature_of : List (List ℕ) → List ℕ → Option Token → Option ℕ
+feature_of names text (Some token) = position (λ name. bytes_eq name (bytes_of text token)) names
+feature_of names text None = None
+
+abbrev pub feature_at : List (List ℕ) → List ℕ → List Token → ℕ → Option ℕ
+feature_at names text tokens at = feature_of names text (slice_get tokens at)
+
+-- a part is read from one place to another, under each limit on nesting from the given one on
+abbrev pub IsRead : List ℕ → List Token → ℕ → Part → ℕ → ℕ → Type 0
+IsRead text tokens most part at end = (limit : ℕ) → most ≤ limit → Leads (forms limit) (fits text tokens) (signs_of part) part at end
+
+-- why a part isn't read: no token could stand there, under any limit; one could, under a higher limit alone; or one
+-- stands there that names no feature
+abbrev pub IsRefused : List (List ℕ) → List ℕ → List Token → ℕ → Part → ℕ → Fault → Type 0
+IsRefused names text tokens most part at (fault.Syntax place) =
+    (limit : ℕ) → most ≤ limit → FaultAt (forms limit) (fits text tokens) (signs_of part) part at place
+IsRefused names text tokens most part at (fault.TooDeep place) =
+    FaultAt (forms most) (fits text tokens) (signs_of part) part at place × ((limit : ℕ) → most < limit → nesting_of part < limit → Reaches (forms limit) (fits text tokens) part at (place + 1))
+IsRefused names text tokens most part at (fault.UnknownFeature place) =
+    Reaches (forms most) (fits text tokens) part at (place + 1) × (sign_at text tokens place ≡ sign.Feature) × (feature_at names text tokens place ≡ None)
+IsRefused names text tokens most part at fault.Memory = Unit {0}
+
+-- what the tokens of a part spell, from one place to another: `or` and `and` group to the left
+pub data Spells (names : List (List ℕ)) (text : List ℕ) (tokens : List Token) : Part → ℕ → Expr → ℕ → Type 0 where
+  one_conjunction : (n at end : ℕ) (expr : Expr) → Spells names text tokens (Conjunction n) at expr end → Spells names text tokens (Disjunction n) at expr end
+  disjunction : (n at middle end : ℕ) (left right : Expr) → Spells names text tokens (Disjunction n) at left middle → fits text tokens sign.Or middle → Spells names text tokens (Conjunction n) (middle + 1) right end → Spells names text tokens (Disjunction n) at (e.Or left right) end
+  one_negation : (n at end : ℕ) (expr : Expr) → Spells names text tokens (Negation n) at expr end → Spells names text tokens (Conjunction n) at expr end
+  conjunction : (n at middle end : ℕ) (left right : Expr) → Spells names text tokens (Conjunction n) at left middle → fits text tokens sign.And middle → Spells names text tokens (Negation n) (middle + 1) right end → Spells names text tokens (Conjunction n) at (e.And left right) end
+  negation : (n at end : ℕ) (inner : Expr) → fits text tokens sign.Not at → Spells names text tokens (Negation (n + 1)) (at + 1) inner end → Spells names text tokens (Negation n) at (e.Not inner) end
+  truth : (n at : ℕ) → fits text tokens sign.True at → Spells names text tokens (Negation n) at e.True (at + 1)
+  falsehood : (n at : ℕ) → fits text tokens sign.False at → Spells names text tokens (Negation n) at e.False (at + 1)
+  feature : (n at i : ℕ) → fits text tokens sign.Feature at → feature_at names text tokens at ≡ Some i → Spells names text tokens (Negation n) at (e.Feature i) (at + 1)
+  brackets : (n at end : ℕ) (expr : Expr) → fits text tokens sign.Open at → Spells names text tokens (Disjunction (n + 1)) (at + 1) expr end → fits text tokens sign.Close end → Spells names text tokens (Negation n) at expr (end + 1)
