@@ -17,7 +17,7 @@ mod token;
 mod value;
 
 pub use column_name::ColName;
-pub use config::Config;
+pub use config::{Config, FEATURE_LIMIT};
 pub use expr::{Expr, and, copy_expr, eval, not, or, weight};
 pub use features::{Features, FeaturesRefused, is_name, is_name_word, same_word};
 pub use list::List;

@@ -1,0 +1,6 @@
+mod Counting
+mod Fates
+mod Found
+mod Nodes
+mod Settled
+mod Splits
