@@ -6,5 +6,7 @@
 mod model;
 mod samples;
 mod search;
+#[cfg(test)]
+mod tests;
 
 pub use model::Model;
