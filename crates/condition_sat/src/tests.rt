@@ -28,42 +28,49 @@ fn model_of(alloc: Global, features: &Features, text: &str) -> Result<Model, Fai
     Ok(Model::new(alloc, expr)?)
 }
 
-/// Whether these letters, and no others, hold.
-fn is_exactly(config: &Config, holding: &[u8]) -> bool {
+/// The features that hold, as the bits of a number.
+fn bits_of(config: &Config) -> u64 {
+    let mut bits = 0;
     for feature in 0..64u8 {
-        let letter = b'A' + feature;
-        if config.holds(feature) != holding.contains(&letter) {
-            return false;
+        if config.holds(feature) {
+            bits |= 1 << feature;
         }
     }
-    true
+    bits
+}
+
+/// What is found for the expression under the model, as bits.
+fn found(alloc: Global, features: &Features, model: &str, text: &str) -> Result<Option<u64>, Fail> {
+    let model = model_of(alloc, features, model)?;
+    let expr = parsed(alloc, features, text)?;
+    let found = model.find(&expr)?;
+    Ok(found.map(|config| bits_of(&config)))
 }
 
 #[test]
 fn finds_the_one_answer(rt: HostRuntime) -> Result<(), Fail> {
-    let alloc = rt.alloc();
-    let features = letters(alloc)?;
-    let cases: [(&str, &str, Option<&str>); 14] = [
-        ("A or B", "not A", Some("B")),
+    let features = letters(rt.alloc())?;
+    let cases = [
+        ("A or B", "not A", Some(0b10)),
         ("A or B", "not A and not B", None),
-        ("true", "true", Some("")),
+        ("true", "true", Some(0)),
         ("false", "true", None),
-        ("true", "A and not B", Some("A")),
-        ("not A or B", "A", Some("AB")),
-        ("not A or B", "not B", Some("")),
+        ("true", "A and not B", Some(0b1)),
+        ("not A or B", "A", Some(0b11)),
+        ("not A or B", "not B", Some(0)),
         ("A and B", "not A", None),
-        ("(A or B) and not (A and B)", "not A", Some("B")),
-        ("A or B or C", "not A and not C", Some("B")),
+        ("(A or B) and not (A and B)", "not A", Some(0b10)),
+        ("A or B or C", "not A and not C", Some(0b10)),
         (
             "(not A or B) and (not B or C) and (not C or A)",
             "A",
-            Some("ABC"),
+            Some(0b111),
         ),
         ("(not A or B) and (not B or not A)", "A", None),
         (
             "true",
             "(A or B) and (not A or B) and (A or not B)",
-            Some("AB"),
+            Some(0b11),
         ),
         (
             "true",
@@ -71,62 +78,85 @@ fn finds_the_one_answer(rt: HostRuntime) -> Result<(), Fail> {
             None,
         ),
     ];
-    for (model, text, holding) in cases {
-        let model = model_of(alloc, &features, model)?;
-        let expr = parsed(alloc, &features, text)?;
-        match (model.find(&expr)?, holding) {
-            (Some(config), Some(holding)) => {
-                assert!(rt;
-                    is_exactly(&config, holding.as_bytes()),
-                    "{text}: {config:?}"
-                );
-                assert!(rt; model.admits(&config), "{text}");
-            }
-            (found, holding) => assert!(rt; found.is_none() && holding.is_none(), "{text}"),
-        }
+    for (model, text, bits) in cases {
+        assert_eq!(rt;
+            found(rt.alloc(), &features, model, text)?,
+            bits,
+            "{model}: {text}"
+        );
     }
     Ok(())
 }
 
+/// What a model says of two expressions.
+#[derive(Clone, Copy, Debug, PartialEq, Eq)]
+struct Answers {
+    /// Some admitted configuration satisfies the left one.
+    found: bool,
+    /// All do.
+    always: bool,
+    equivalent: bool,
+    exclusive: bool,
+}
+
+fn answered(model: &Model, left: &Expr, right: &Expr) -> Result<Answers, Memory> {
+    Ok(Answers {
+        found: model.find(left)?.is_some(),
+        always: model.always(left)?,
+        equivalent: model.equivalent(left, right)?,
+        exclusive: model.exclusive(left, right)?,
+    })
+}
+
+fn compared(
+    alloc: Global,
+    features: &Features,
+    model: &str,
+    left: &str,
+    right: &str,
+) -> Result<Answers, Fail> {
+    let model = model_of(alloc, features, model)?;
+    let left = parsed(alloc, features, left)?;
+    let right = parsed(alloc, features, right)?;
+    Ok(answered(&model, &left, &right)?)
+}
+
 #[test]
 fn compares_under_the_model(rt: HostRuntime) -> Result<(), Fail> {
-    let alloc = rt.alloc();
-    let features = letters(alloc)?;
+    let features = letters(rt.alloc())?;
     let cases = [
-        ("A or B", "A or B", "B or A", true, true, false),
-        ("A or B", "not A", "B and not A", false, true, false),
-        ("A or B", "A", "B", false, false, false),
-        ("not (A and B)", "A", "B", false, false, true),
-        ("A", "A", "true", true, true, false),
-        ("not A or B", "A", "A and B", false, true, false),
-        ("not A or B", "A", "not B", false, false, true),
-        ("false", "A", "not A", true, true, true),
-        ("true", "A or not A", "true", true, true, false),
-        ("true", "A", "A", false, true, false),
+        ("A or B", "A or B", "B or A", true, true, true, false),
+        ("A or B", "not A", "B and not A", true, false, true, false),
+        ("A or B", "A", "B", true, false, false, false),
+        ("not (A and B)", "A", "B", true, false, false, true),
+        ("A", "A", "true", true, true, true, false),
+        ("not A or B", "A", "A and B", true, false, true, false),
+        ("not A or B", "A", "not B", true, false, false, true),
+        ("false", "A", "not A", false, true, true, true),
+        ("true", "A or not A", "true", true, true, true, false),
+        ("true", "A", "A", true, false, true, false),
         (
             "(A or B) and not (A and B)",
             "A",
             "not B",
+            true,
             false,
             true,
             false,
         ),
-        ("not A and not B", "A", "B", false, true, true),
+        ("not A and not B", "A", "B", false, false, true, true),
     ];
-    for (model, left, right, always, equivalent, exclusive) in cases {
-        let model = model_of(alloc, &features, model)?;
-        let first = parsed(alloc, &features, left)?;
-        let second = parsed(alloc, &features, right)?;
-        assert_eq!(rt; model.always(&first)?, always, "{left}");
-        assert_eq!(rt;
-            model.equivalent(&first, &second)?,
+    for (model, left, right, found, always, equivalent, exclusive) in cases {
+        let expected = Answers {
+            found,
+            always,
             equivalent,
-            "{left}, {right}"
-        );
-        assert_eq!(rt;
-            model.exclusive(&first, &second)?,
             exclusive,
-            "{left}, {right}"
+        };
+        assert_eq!(rt;
+            compared(rt.alloc(), &features, model, left, right)?,
+            expected,
+            "{model}: {left}, {right}"
         );
     }
     Ok(())
@@ -160,7 +190,17 @@ fn literal(alloc: Global, numbers: &mut Numbers, features: u8) -> Result<Expr, M
     }
 }
 
-/// An expression that grows at either end of two parts, which are joined now and then.
+fn joined(alloc: Global, numbers: &mut Numbers, left: Expr, right: Expr) -> Result<Expr, Memory> {
+    match numbers.below(5) {
+        0 => and(alloc, left, right),
+        1 => or(alloc, left, right),
+        2 => and(alloc, right, left),
+        3 => or(alloc, right, left),
+        _ => not(alloc, and(alloc, left, right)?),
+    }
+}
+
+/// An expression of parts, each of which grows before it is joined to the whole.
 fn random_expr(
     alloc: Global,
     numbers: &mut Numbers,
@@ -169,34 +209,18 @@ fn random_expr(
 ) -> Result<Expr, Memory>
     requires { 0 < features }
 {
-    let mut first = literal(alloc, numbers, features)?;
-    let mut second = literal(alloc, numbers, features)?;
+    let mut whole = literal(alloc, numbers, features)?;
+    let mut part = literal(alloc, numbers, features)?;
     for _ in 0..steps {
-        let next = literal(alloc, numbers, features)?;
-        match numbers.below(7) {
-            0 => first = and(alloc, first, next)?,
-            1 => first = or(alloc, first, next)?,
-            2 => second = and(alloc, next, second)?,
-            3 => second = or(alloc, next, second)?,
-            4 => {
-                first = and(alloc, second, first)?;
-                second = next;
-            }
-            5 => {
-                first = or(alloc, second, first)?;
-                second = next;
-            }
-            _ => {
-                first = not(alloc, first)?;
-                second = next;
-            }
+        if numbers.below(3) == 0 {
+            whole = joined(alloc, numbers, whole, part)?;
+            part = literal(alloc, numbers, features)?;
+        } else {
+            let next = literal(alloc, numbers, features)?;
+            part = joined(alloc, numbers, part, next)?;
         }
     }
-    if numbers.below(2) == 0 {
-        and(alloc, first, second)
-    } else {
-        or(alloc, first, second)
-    }
+    joined(alloc, numbers, whole, part)
 }
 
 /// The configuration whose features are the ones among the lowest eight bits.
@@ -210,52 +234,46 @@ fn config_of(bits: u8) -> Config {
     config
 }
 
-/// What going through all configurations says: whether some admitted one satisfies the left expression, whether
-/// all do, whether all satisfy both alike, and whether none satisfies both.
-fn by_all_configurations(model: &Expr, left: &Expr, right: &Expr) -> (bool, bool, bool, bool) {
-    let mut some = false;
-    let mut always = true;
-    let mut equivalent = true;
-    let mut exclusive = true;
+/// What going through all configurations says.
+fn by_all_configurations(model: &Expr, left: &Expr, right: &Expr) -> Answers {
+    let mut answers = Answers {
+        found: false,
+        always: true,
+        equivalent: true,
+        exclusive: true,
+    };
     for bits in 0..=u8::MAX {
         let config = config_of(bits);
         if eval(model, &config) {
             let first = eval(left, &config);
             let second = eval(right, &config);
-            some |= first;
-            always &= first;
-            equivalent &= first == second;
-            exclusive &= !(first && second);
+            answers.found |= first;
+            answers.always &= first;
+            answers.equivalent &= first == second;
+            answers.exclusive &= !(first && second);
         }
     }
-    (some, always, equivalent, exclusive)
+    answers
+}
+
+/// The answers to one random question, and those of going through all configurations.
+fn question(alloc: Global, numbers: &mut Numbers, steps: u8) -> Result<(Answers, Answers), Memory> {
+    let features = 1 + numbers.below(8);
+    let model = Model::new(alloc, random_expr(alloc, numbers, features, steps)?)?;
+    let left = random_expr(alloc, numbers, features, steps / 2)?;
+    let right = random_expr(alloc, numbers, features, steps / 5)?;
+    Ok((
+        answered(&model, &left, &right)?,
+        by_all_configurations(model.expr(), &left, &right),
+    ))
 }
 
 #[test]
 fn answers_as_all_configurations_do(rt: HostRuntime) -> Result<(), Fail> {
-    let alloc = rt.alloc();
     let mut numbers = Numbers(20);
     for round in 0..400u16 {
-        let features = 1 + numbers.below(8);
-        let expr = random_expr(alloc, &mut numbers, features, (round % 24) as u8)?;
-        let left = random_expr(alloc, &mut numbers, features, (round % 16) as u8)?;
-        let right = random_expr(alloc, &mut numbers, features, (round % 5) as u8)?;
-        let model = Model::new(alloc, expr)?;
-        let (some, always, equivalent, exclusive) = by_all_configurations(
-            model.expr(),
-            &left,
-            &right,
-        );
-        match model.find(&left)? {
-            Some(config) => assert!(rt;
-                some && model.admits(&config) && eval(&left, &config),
-                "{round}"
-            ),
-            None => assert!(rt; !some, "{round}"),
-        }
-        assert_eq!(rt; model.always(&left)?, always, "{round}");
-        assert_eq!(rt; model.equivalent(&left, &right)?, equivalent, "{round}");
-        assert_eq!(rt; model.exclusive(&left, &right)?, exclusive, "{round}");
+        let (answers, expected) = question(rt.alloc(), &mut numbers, (round % 30) as u8)?;
+        assert_eq!(rt; answers, expected, "{round}");
     }
     Ok(())
 }
@@ -284,38 +302,39 @@ fn and_chain(alloc: Global, links: u32, limit: u32) -> Result<Expr, Memory>
     Ok(chain)
 }
 
+fn bits_found(model: &Model, expr: &Expr) -> Result<Option<u64>, Memory> {
+    Ok(model.find(expr)?.map(|config| bits_of(&config)))
+}
+
 #[test]
 fn forty_free_features(rt: HostRuntime) -> Result<(), Fail> {
-    let alloc = rt.alloc();
-    let free = Model::new(alloc, Expr::True)?;
-    let all = and_chain(alloc, 40, 40)?;
-    let some = or_chain(alloc, 40, 40)?;
-    let found = free.find(&all)?.ok_or("none")?;
-    for feature in 0..64u8 {
-        assert_eq!(rt; found.holds(feature), feature < 40, "{feature}");
-    }
-    assert!(rt; free.find(&some)?.is_some());
-    assert!(rt; is_exactly(&free.find(&Expr::True)?.ok_or("none")?, b""));
-    assert!(rt; !free.always(&some)?);
-    assert!(rt; !free.equivalent(&all, &some)?);
-    let none = not(alloc, some)?;
-    assert!(rt; free.exclusive(&all, &none)?);
+    let free = Model::new(rt.alloc(), Expr::True)?;
+    let all = and_chain(rt.alloc(), 40, 40)?;
+    let some = or_chain(rt.alloc(), 40, 40)?;
+    assert_eq!(rt; bits_found(&free, &all)?, Some((1 << 40) - 1));
+    assert_eq!(rt; bits_found(&free, &Expr::True)?, Some(0));
+    let expected = Answers {
+        found: true,
+        always: false,
+        equivalent: false,
+        exclusive: false,
+    };
+    assert_eq!(rt; answered(&free, &some, &all)?, expected);
     Ok(())
 }
 
 #[test]
 fn chains_of_a_million(rt: HostRuntime) -> Result<(), Fail> {
-    let alloc = rt.alloc();
-    let links = 1_000_000;
-    let model = Model::new(alloc, or_chain(alloc, links, 3)?)?;
-    let some = or_chain(alloc, links, 3)?;
-    let all = and_chain(alloc, links, 3)?;
-    assert!(rt; is_exactly(&model.find(&all)?.ok_or("none")?, b"ABC"));
-    assert!(rt; model.always(&some)?);
-    assert!(rt; !model.always(&all)?);
-    assert!(rt; !model.equivalent(&some, &all)?);
-    assert!(rt; !model.exclusive(&some, &all)?);
-    let model = Model::new(alloc, all)?;
-    assert!(rt; model.always(&some)?);
+    let model = Model::new(rt.alloc(), or_chain(rt.alloc(), 1_000_000, 3)?)?;
+    let some = or_chain(rt.alloc(), 1_000_000, 3)?;
+    let all = and_chain(rt.alloc(), 1_000_000, 3)?;
+    assert_eq!(rt; bits_found(&model, &all)?, Some(0b111));
+    let expected = Answers {
+        found: true,
+        always: true,
+        equivalent: false,
+        exclusive: false,
+    };
+    assert_eq!(rt; answered(&model, &some, &all)?, expected);
     Ok(())
 }
