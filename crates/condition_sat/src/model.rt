@@ -14,6 +14,10 @@ use std::marker;
 
 /// A feature model: the configurations that satisfy its expression are the admitted ones. Contracts see it as
 /// the expression.
+///
+/// Most questions are answered by a few sample configurations, in the time of evaluating the expressions asked
+/// about. The others are searched, in a time that may grow with the number of combinations of the features that
+/// occur. `Memory` is answered where memory runs out.
 #[derive(Drop)]
 pub struct Model {
     expr: Expr,
@@ -37,6 +41,7 @@ impl marker::Model for Model {
 }
 
 impl Model {
+    /// Takes time that grows with the expression's weight and the number of its features: no search is made.
     pub fn new(alloc: Global, expr: Expr) -> Result<Model, Memory>
         ensures { IfOk result (λ model. model ≡ expr) }
     {
@@ -74,10 +79,8 @@ impl Model {
         ensures no { IfOk result (λ answer. answer ≡ false → SomeAdmitted self.now (λ c. satisfies c expr.now ≡ false)) }
     {
         let anything = Expr::True;
-        Ok(
-            self.meeting(wanted(expr, false), wanted(&anything, true))
-                .is_none(),
-        )
+        let failing = self.meeting(wanted(expr, false), wanted(&anything, true));
+        Ok(failing.is_none())
     }
 
     /// Whether the same admitted configurations satisfy both expressions.
@@ -85,16 +88,12 @@ impl Model {
         ensures yes { IfOk result (λ answer. answer ≡ true → (c : Items ℕ) → IsAdmitted self.now c → satisfies c left.now ≡ satisfies c right.now) }
         ensures no { IfOk result (λ answer. answer ≡ false → SomeAdmitted self.now (λ c. satisfies c left.now ≡ negation (satisfies c right.now))) }
     {
-        if self
-            .meeting(wanted(left, true), wanted(right, false))
-            .is_some()
-        {
+        let left_alone = self.meeting(wanted(left, true), wanted(right, false));
+        if left_alone.is_some() {
             return Ok(false);
         }
-        Ok(
-            self.meeting(wanted(left, false), wanted(right, true))
-                .is_none(),
-        )
+        let right_alone = self.meeting(wanted(left, false), wanted(right, true));
+        Ok(right_alone.is_none())
     }
 
     /// Whether no admitted configuration satisfies both expressions.
@@ -102,10 +101,8 @@ impl Model {
         ensures yes { IfOk result (λ answer. answer ≡ true → (c : Items ℕ) → IsAdmitted self.now c → (satisfies c left.now && satisfies c right.now) ≡ false) }
         ensures no { IfOk result (λ answer. answer ≡ false → SomeAdmitted self.now (λ c. (satisfies c left.now && satisfies c right.now) ≡ true)) }
     {
-        Ok(
-            self.meeting(wanted(left, true), wanted(right, true))
-                .is_none(),
-        )
+        let shared = self.meeting(wanted(left, true), wanted(right, true));
+        Ok(shared.is_none())
     }
 
     /// An admitted configuration that meets both demands, if there is one.

@@ -246,9 +246,9 @@ pub fn fate_of_all(demands: &[Demand], partial: &Partial) -> Fate
     all
 }
 
-/// A configuration that extends what is settled and meets all demands, if there is one. It has no more features
-/// than need be, and what it takes grows in the worst case with the number of combinations of the features that
-/// occur.
+/// A configuration that extends what is settled and meets all demands, if there is one. What it takes may grow
+/// with the number of combinations of the features that occur, and the depth with the number of these
+/// features.
 pub fn search(demands: &[Demand], partial: &Partial) -> Option<Config>
     ensures met { IfSome result (λ c. all_met c demands.now ≡ true) }
     ensures occurring { IfSome result (λ c. (i : ℕ) → has_feature c i ≡ true → (has_feature partial.now.held i || occurs i demands.now) ≡ true) }
