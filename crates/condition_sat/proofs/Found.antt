@@ -5,7 +5,7 @@ use Rattle.feature_expr.specs.declared.expr.Expr.{Expr}
 use Rattle.feature_expr.specs.declared.expr.Expr as e
 use Rattle.feature_expr.specs.Config.{has_feature}
 use Rattle.feature_expr.specs.Expressions.{mentions}
-use Rattle.condition_sat.specs.declared.search.Demand.{Demand}
+use Rattle.condition_sat.specs.declared.search.Constraint.{Constraint}
 use Rattle.condition_sat.specs.Samples.{IsMeeting}
 use Rattle.condition_sat.proofs.Nodes.{mentions-True}
 
@@ -13,8 +13,8 @@ or-false : (b : Bool) → (b || false) ≡ b
 or-false true = refl
 or-false false = refl
 
--- beside a demand that is met anywhere, only the model and the other one have features
-pub occurring_alone : (model x : Expr) (first second : Demand) (found : Option (List ℕ)) → first.expr.now ≡ x → second.expr.now ≡ e.True → IfSome found (λ c. IsMeeting model first second c) → IfSome found (λ c. (i : ℕ) → has_feature c i ≡ true → (mentions i model || mentions i x) ≡ true)
+-- beside a constraint that is met anywhere, only the model and the other one have features
+pub occurring_alone : (model x : Expr) (first second : Constraint) (found : Option (List ℕ)) → first.expr.now ≡ x → second.expr.now ≡ e.True → IfSome found (λ c. IsMeeting model first second c) → IfSome found (λ c. (i : ℕ) → has_feature c i ≡ true → (mentions i model || mentions i x) ≡ true)
 occurring_alone model x first second None is_x is_true met = tt
 occurring_alone model x first second (Some c) is_x is_true met = λ i has.
     let last = ap (λ y. mentions i model || mentions i first.expr.now || mentions i y) is_true in

@@ -1,6 +1,6 @@
+mod Assigned
 mod Counting
-mod Fates
 mod Found
 mod Nodes
-mod Settled
+mod Sides
 mod Splits

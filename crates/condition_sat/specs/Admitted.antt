@@ -1,5 +1,5 @@
 -- Admitted configurations: those that satisfy the feature model.
-use Rattle.std.specs.Prelude.{◌≡◌, ℕ, Bool, true, List}
+use Rattle.std.specs.Prelude.{◌≡◌, ℕ, true, List}
 use Rattle.feature_expr.specs.declared.expr.Expr.{Expr}
 use Rattle.feature_expr.specs.Config.{IsConfig}
 use Rattle.feature_expr.specs.Satisfaction.{satisfies}

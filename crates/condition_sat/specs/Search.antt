@@ -1,4 +1,4 @@
--- What is settled of a configuration, and what becomes of a demand under it.
+-- Partial assignments, and what becomes of a constraint under one.
 use Rattle.std.specs.Prelude.{◌≡◌, ℕ, ◌<◌, Bool, true, false, not, List, Option, Some, None}
 use Rattle.feature_expr.specs.declared.config.TheConstants.{FEATURE_LIMIT}
 use Rattle.feature_expr.specs.declared.expr.Expr.{Expr}
@@ -7,50 +7,50 @@ use Rattle.feature_expr.specs.Satisfaction.{satisfies}
 use Rattle.feature_expr.specs.Expressions.{mentions}
 use Rattle.std.specs.List.{list_all, list_any}
 use Rattle.std.proofs.Math.Bool.{beq}
-use Rattle.condition_sat.specs.declared.search.Demand.{Demand}
-use Rattle.condition_sat.specs.declared.search.Partial.{Partial}
-use Rattle.condition_sat.specs.declared.search.Fate.{Fate}
-use Rattle.condition_sat.specs.declared.search.Fate.TheVariants as fate
+use Rattle.condition_sat.specs.declared.search.Constraint.{Constraint}
+use Rattle.condition_sat.specs.declared.search.Assignment.{Assignment}
+use Rattle.condition_sat.specs.declared.search.Status.{Status}
+use Rattle.condition_sat.specs.declared.search.Status.TheVariants as status
 
--- a configuration that has all that is settled
-pub record Extends (c : List ℕ) (partial : Partial) : Type 0 where
+-- a configuration that extends the assignment
+pub record Extends (c : List ℕ) (assignment : Assignment) : Type 0 where
   pub config : IsConfig c
-  pub held : (i : ℕ) → has_feature partial.held i ≡ true → has_feature c i ≡ true
-  pub lacking : (i : ℕ) → has_feature partial.lacking i ≡ true → has_feature c i ≡ false
+  pub held : (i : ℕ) → has_feature assignment.held i ≡ true → has_feature c i ≡ true
+  pub lacking : (i : ℕ) → has_feature assignment.lacking i ≡ true → has_feature c i ≡ false
 
--- a feature that isn't settled
-pub record IsUnsettled (partial : Partial) (feature : ℕ) : Type 0 where
+-- an unassigned feature
+pub record IsUnassigned (assignment : Assignment) (feature : ℕ) : Type 0 where
   pub below : feature < FEATURE_LIMIT
-  pub not_held : has_feature partial.held feature ≡ false
-  pub not_lacking : has_feature partial.lacking feature ≡ false
+  pub not_held : has_feature assignment.held feature ≡ false
+  pub not_lacking : has_feature assignment.lacking feature ≡ false
 
--- a feature's value in all configurations that extend what is settled; None where it isn't settled
-abbrev pub IsSettled : Partial → ℕ → Option Bool → Type 0
-IsSettled partial feature (Some value) = (has_feature partial.held feature ≡ value) × ((c : List ℕ) → Extends c partial → has_feature c feature ≡ value)
-IsSettled partial feature None = IsUnsettled partial feature
+-- a feature's value in all configurations that extend the assignment; None where it is unassigned
+abbrev pub IsAssigned : Assignment → ℕ → Option Bool → Type 0
+IsAssigned assignment feature (Some value) = (has_feature assignment.held feature ≡ value) × ((c : List ℕ) → Extends c assignment → has_feature c feature ≡ value)
+IsAssigned assignment feature None = IsUnassigned assignment feature
 
--- what becomes of the demand that an expression has a value
-abbrev pub IsFate : Expr → Bool → Partial → Fate → Type 0
-IsFate e value partial fate.Met = satisfies partial.held e ≡ value
-IsFate e value partial fate.Never = (c : List ℕ) → Extends c partial → satisfies c e ≡ not value
-IsFate e value partial (fate.Open feature) = IsUnsettled partial feature × (mentions feature e ≡ true)
+-- what becomes of the constraint that an expression has a value
+abbrev pub IsStatus : Expr → Bool → Assignment → Status → Type 0
+IsStatus e value assignment status.Satisfied = satisfies assignment.held e ≡ value
+IsStatus e value assignment status.Falsified = (c : List ℕ) → Extends c assignment → satisfies c e ≡ not value
+IsStatus e value assignment (status.Undecided feature) = IsUnassigned assignment feature × (mentions feature e ≡ true)
 
--- whether a configuration meets a demand
-abbrev pub meets : List ℕ → Demand → Bool
-meets c demand = beq (satisfies c demand.expr.now) demand.value
+-- whether a configuration meets a constraint
+abbrev pub meets : List ℕ → Constraint → Bool
+meets c constraint = beq (satisfies c constraint.expr.now) constraint.value
 
-abbrev pub all_met : List ℕ → List Demand → Bool
-all_met c demands = list_all (λ d. meets c d) demands
+abbrev pub all_met : List ℕ → List Constraint → Bool
+all_met c constraints = list_all (λ d. meets c d) constraints
 
--- whether a feature occurs in a demand
-abbrev pub occurs : ℕ → List Demand → Bool
-occurs feature demands = list_any (λ d. mentions feature d.expr.now) demands
+-- whether a feature occurs in a constraint
+abbrev pub occurs : ℕ → List Constraint → Bool
+occurs feature constraints = list_any (λ d. mentions feature d.expr.now) constraints
 
--- what becomes of several demands together
-abbrev pub IsFateOfAll : List Demand → Partial → Fate → Type 0
-IsFateOfAll demands partial fate.Met = all_met partial.held demands ≡ true
-IsFateOfAll demands partial fate.Never = (c : List ℕ) → Extends c partial → all_met c demands ≡ false
-IsFateOfAll demands partial (fate.Open feature) = IsUnsettled partial feature × (occurs feature demands ≡ true)
+-- what becomes of several constraints together
+abbrev pub IsStatusOfAll : List Constraint → Assignment → Status → Type 0
+IsStatusOfAll constraints assignment status.Satisfied = all_met assignment.held constraints ≡ true
+IsStatusOfAll constraints assignment status.Falsified = (c : List ℕ) → Extends c assignment → all_met c constraints ≡ false
+IsStatusOfAll constraints assignment (status.Undecided feature) = IsUnassigned assignment feature × (occurs feature constraints ≡ true)
 
 -- an expression that has a value exactly where both of its sides have it
 pub record IsOfBoth (whole left right : Expr) (value : Bool) : Type 0 where
@@ -73,11 +73,11 @@ IsOf true whole left right value = IsOfBoth whole left right value
 IsOf false whole left right value = IsOfEither whole left right value
 
 -- what becomes of the whole; None where it is what becomes of the left side
-abbrev pub IsFateOf : Expr → Expr → Bool → Partial → Option Fate → Type 0
-IsFateOf whole left value partial None = (f : Fate) → IsFate left value partial f → IsFate whole value partial f
-IsFateOf whole left value partial (Some f) = IsFate whole value partial f
+abbrev pub IsStatusOf : Expr → Expr → Bool → Assignment → Option Status → Type 0
+IsStatusOf whole left value assignment None = (f : Status) → IsStatus left value assignment f → IsStatus whole value assignment f
+IsStatusOf whole left value assignment (Some f) = IsStatus whole value assignment f
 
--- what becomes of each expression with this left side and a right side of this fate
-abbrev pub IsOfSides : Bool → Expr → Fate → Bool → Partial → Option Fate → Type 0
-IsOfSides both left right_fate value partial answer =
-    (whole right : Expr) → IsOf both whole left right value → IsFate right value partial right_fate → IsFateOf whole left value partial answer
+-- what becomes of each expression with this left side and a right side of this status
+abbrev pub IsOfSides : Bool → Expr → Status → Bool → Assignment → Option Status → Type 0
+IsOfSides both left right_status value assignment answer =
+    (whole right : Expr) → IsOf both whole left right value → IsStatus right value assignment right_status → IsStatusOf whole left value assignment answer

@@ -7,7 +7,7 @@ ghost use Rattle.condition_sat.specs.Search.{meets};
 ghost use Rattle.condition_sat.specs.Samples.{IsMeeting};
 
 use crate::samples::{sample_meeting, samples_of};
-use crate::search::{Demand, Partial, search};
+use crate::search::{Assignment, Constraint, search};
 use feature_expr::{Config, Expr, Memory, eval};
 use std::alloc::Global;
 use std::marker;
@@ -105,8 +105,8 @@ impl Model {
         Ok(shared.is_none())
     }
 
-    /// An admitted configuration that meets both demands, if there is one.
-    fn meeting(&self, first: Demand, second: Demand) -> Option<Config>
+    /// An admitted configuration that meets both constraints, if there is one.
+    fn meeting(&self, first: Constraint, second: Constraint) -> Option<Config>
         ensures some { IfSome result (λ c. IsMeeting self.now first.entry second.entry c) }
         ensures none { IfNone result ((c : Items ℕ) → IsAdmitted self.now c → (meets c first.entry && meets c second.entry) ≡ false) }
     {
@@ -116,20 +116,20 @@ impl Model {
         }
     }
 
-    fn searched(&self, first: Demand, second: Demand) -> Option<Config>
+    fn searched(&self, first: Constraint, second: Constraint) -> Option<Config>
         ensures some { IfSome result (λ c. IsMeeting self.now first.entry second.entry c) }
         ensures none { IfNone result ((c : Items ℕ) → IsAdmitted self.now c → (meets c first.entry && meets c second.entry) ≡ false) }
     {
-        let demands = [wanted(&self.expr, true), first, second];
-        let found = search(&demands, &Partial::none())?;
+        let constraints = [wanted(&self.expr, true), first, second];
+        let found = search(&constraints, &Assignment::none())?;
         found.known();
         Some(found)
     }
 }
 
-fn wanted(expr: &Expr, value: bool) -> Demand<'_>
+fn wanted(expr: &Expr, value: bool) -> Constraint<'_>
     ensures expr { result.expr.now ≡ expr.now }
     ensures value { result.value ≡ value }
 {
-    Demand { expr, value }
+    Constraint { expr, value }
 }

@@ -5,7 +5,7 @@ ghost use Rattle.feature_expr.specs.Config.{has_feature};
 ghost use Rattle.condition_sat.specs.Samples.{IsSample};
 ghost use Rattle.condition_sat.specs.Search.{meets};
 
-use crate::search::{Demand, Fate, Partial, fate_of_all};
+use crate::search::{Assignment, Constraint, Status, status_of_all};
 use feature_expr::{Config, Expr, FEATURE_LIMIT, Memory, features_of};
 use std::alloc::Global;
 
@@ -41,14 +41,14 @@ pub fn samples_of(alloc: Global, model: &Expr) -> Result<Vec<Config>, Memory>
 fn sample_near(model: &Expr, pattern: u64) -> Option<Config>
     ensures { IfSome result (λ c. IsSample model.now c) }
 {
-    let demands = [Demand {
+    let constraints = [Constraint {
         expr: model,
         value: true,
     }];
-    let partial = settled_near(&demands, features_of(model), pattern);
-    match fate_of_all(&demands, &partial) {
-        Fate::Met => {
-            let sample = partial.held();
+    let assignment = assigned_near(&constraints, features_of(model), pattern);
+    match status_of_all(&constraints, &assignment) {
+        Status::Satisfied => {
+            let sample = assignment.held();
             sample.known();
             Some(sample)
         }
@@ -56,45 +56,55 @@ fn sample_near(model: &Expr, pattern: u64) -> Option<Config>
     }
 }
 
-/// The features are settled as in the pattern, but for those with which the demands could then never be met.
-fn settled_near(demands: &[Demand], features: Config, pattern: u64) -> Partial
+/// The features are assigned as in the pattern, but for those with which no extension would meet the constraints.
+fn assigned_near(constraints: &[Constraint], features: Config, pattern: u64) -> Assignment
     ensures { (i : ℕ) → has_feature result.held i ≡ true → has_feature features i ≡ true }
 {
-    let mut partial = Partial::none();
+    let mut assignment = Assignment::none();
     for feature in 0..FEATURE_LIMIT {
         if features.has(feature) {
-            partial = settled_next(demands, &partial, feature, pattern >> feature & 1 == 1);
+            assignment = assigned_next(
+                constraints,
+                &assignment,
+                feature,
+                pattern >> feature & 1 == 1,
+            );
         }
     }
-    partial
+    assignment
 }
 
-/// The same, and the feature is settled to have the value, or else the other one where the demands could then
-/// never be met.
-fn settled_next(demands: &[Demand], partial: &Partial, feature: u8, value: bool) -> Partial
+/// The same, and the feature is assigned the value, or else the other one where no extension would then meet the
+/// constraints.
+fn assigned_next(
+    constraints: &[Constraint],
+    assignment: &Assignment,
+    feature: u8,
+    value: bool,
+) -> Assignment
     requires { feature < FEATURE_LIMIT }
-    ensures { (i : ℕ) → has_feature result.held i ≡ true → (i == feature || has_feature partial.now.held i) ≡ true }
+    ensures { (i : ℕ) → has_feature result.held i ≡ true → (i == feature || has_feature assignment.now.held i) ≡ true }
 {
-    let next = settled_to(partial, feature, value);
-    match fate_of_all(demands, &next) {
-        Fate::Never => settled_to(partial, feature, !value),
+    let next = assigned_to(assignment, feature, value);
+    match status_of_all(constraints, &next) {
+        Status::Falsified => assigned_to(assignment, feature, !value),
         _ => next,
     }
 }
 
-fn settled_to(partial: &Partial, feature: u8, value: bool) -> Partial
+fn assigned_to(assignment: &Assignment, feature: u8, value: bool) -> Assignment
     requires { feature < FEATURE_LIMIT }
-    ensures { (i : ℕ) → has_feature result.held i ≡ true → (i == feature || has_feature partial.now.held i) ≡ true }
+    ensures { (i : ℕ) → has_feature result.held i ≡ true → (i == feature || has_feature assignment.now.held i) ≡ true }
 {
     if value {
-        partial.holding(feature)
+        assignment.holding(feature)
     } else {
-        partial.without(feature)
+        assignment.without(feature)
     }
 }
 
-/// The first sample that meets both demands.
-pub fn sample_meeting(samples: &[Config], first: Demand, second: Demand) -> Option<Config>
+/// The first sample that meets both constraints.
+pub fn sample_meeting(samples: &[Config], first: Constraint, second: Constraint) -> Option<Config>
     ensures { IfSome result (λ c. Contains samples.now c × (meets c first.entry ≡ true) × (meets c second.entry ≡ true)) }
 {
     for sample in samples {

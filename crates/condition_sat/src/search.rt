@@ -1,39 +1,39 @@
-//! Whether some configuration meets several demands at once: by splitting on one feature after another, with
+//! Whether some configuration meets several constraints at once: by splitting on one feature after another, with
 //! no copy of an expression.
 ghost use Rattle.std.specs.Prelude.{◌≡◌, ℕ, ◌==◌, ◌||◌, ◌<◌, List as Items, [], true, false, not as negation, if◌then◌else◌, Some, IfSome, IfNone};
 ghost use Rattle.feature_expr.specs.declared.expr.Expr.{Expr};
 ghost use Rattle.feature_expr.specs.Satisfaction.{satisfies};
 ghost use Rattle.feature_expr.specs.Config.{has_feature};
-ghost use Rattle.condition_sat.specs.Search.{Extends, IsSettled, IsFate, IsOfSides, IsFateOfAll, meets, all_met, occurs};
+ghost use Rattle.condition_sat.specs.Search.{Extends, IsAssigned, IsStatus, IsOfSides, IsStatusOfAll, meets, all_met, occurs};
 
 use feature_expr::{Config, Expr, FEATURE_LIMIT, eval};
 
-/// What is settled of a configuration.
+/// A partial assignment: the features that are assigned true, and those that are assigned false.
 #[derive(Clone, Copy, Debug)]
-pub struct Partial {
+pub struct Assignment {
     held: Config,
     lacking: Config,
 }
 
-/// What becomes of a demand under what is settled.
+/// What becomes of a constraint under a partial assignment.
 #[derive(Clone, Copy, Debug)]
-pub enum Fate {
-    /// It is met where nothing but what is settled holds.
-    Met,
-    /// It is met nowhere.
-    Never,
-    /// It may hang on this feature, which isn't settled.
-    Open(u8),
+pub enum Status {
+    /// It is met where nothing holds but what is assigned true.
+    Satisfied,
+    /// No extension of the assignment meets it.
+    Falsified,
+    /// It may hang on this feature, which is unassigned.
+    Undecided(u8),
 }
 
 /// That an expression has a value.
 #[derive(Clone, Copy)]
-pub struct Demand<'a> {
+pub struct Constraint<'a> {
     pub expr: &'a Expr,
     pub value: bool,
 }
 
-impl Demand<'_> {
+impl Constraint<'_> {
     pub fn is_met(&self, config: &Config) -> bool
         ensures { result ≡ meets config.now self.now }
     {
@@ -41,52 +41,52 @@ impl Demand<'_> {
     }
 }
 
-impl Partial {
-    /// Nothing is settled.
-    pub fn none() -> Partial
+impl Assignment {
+    /// Nothing is assigned.
+    pub fn none() -> Assignment
         ensures held { result.held ≡ [] }
         ensures lacking { result.lacking ≡ [] }
     {
-        Partial {
+        Assignment {
             held: Config::none(),
             lacking: Config::none(),
         }
     }
 
-    /// The configuration in which nothing holds but what is settled to hold.
+    /// The configuration in which nothing holds but what is assigned true.
     pub fn held(&self) -> Config
         ensures { result ≡ self.now.held }
     {
         self.held
     }
 
-    /// The same, and the feature holds.
-    pub fn holding(&self, feature: u8) -> Partial
+    /// The same, and the feature is true.
+    pub fn holding(&self, feature: u8) -> Assignment
         requires { feature < FEATURE_LIMIT }
         ensures held { (i : ℕ) → has_feature result.held i ≡ (i == feature || has_feature self.now.held i) }
         ensures lacking { result.lacking ≡ self.now.lacking }
     {
-        Partial {
+        Assignment {
             held: self.held.with(feature),
             lacking: self.lacking,
         }
     }
 
-    /// The same, and the feature doesn't hold.
-    pub fn without(&self, feature: u8) -> Partial
+    /// The same, and the feature is false.
+    pub fn without(&self, feature: u8) -> Assignment
         requires { feature < FEATURE_LIMIT }
         ensures held { result.held ≡ self.now.held }
         ensures lacking { (i : ℕ) → has_feature result.lacking i ≡ (i == feature || has_feature self.now.lacking i) }
     {
-        Partial {
+        Assignment {
             held: self.held,
             lacking: self.lacking.with(feature),
         }
     }
 
-    /// The feature's value, where it is settled. A feature at or above the limit holds nowhere.
-    fn settled(&self, feature: u8) -> Option<bool>
-        ensures { IsSettled self.now feature result }
+    /// The feature's value, where it is assigned. A feature at or above the limit holds nowhere.
+    fn assigned(&self, feature: u8) -> Option<bool>
+        ensures { IsAssigned self.now feature result }
     {
         if self.held.holds(feature) {
             Some(true)
@@ -97,19 +97,19 @@ impl Partial {
         }
     }
 
-    fn fate(&self, feature: u8, value: bool) -> Fate
-        ensures { IsFate (Expr.Feature feature) value self.now result }
+    fn status(&self, feature: u8, value: bool) -> Status
+        ensures { IsStatus (Expr.Feature feature) value self.now result }
     {
-        match self.settled(feature) {
-            Some(settled) => if settled == value {
-                Fate::Met
+        match self.assigned(feature) {
+            Some(assigned) => if assigned == value {
+                Status::Satisfied
             } else {
-                Fate::Never
+                Status::Falsified
             },
             None => if value {
-                Fate::Open(feature)
+                Status::Undecided(feature)
             } else {
-                Fate::Met
+                Status::Satisfied
             },
         }
     }
@@ -117,16 +117,16 @@ impl Partial {
     fn allows(&self, feature: u8, value: bool) -> bool
         ensures { result ≡ false → (c : Items ℕ) → Extends c self.now → satisfies c (Expr.Feature feature) ≡ negation value }
     {
-        match self.settled(feature) {
-            Some(settled) => settled == value,
+        match self.assigned(feature) {
+            Some(assigned) => assigned == value,
             None => true,
         }
     }
 }
 
-/// Whether the expression may have the value in a configuration that extends what is settled.
-fn can_be(expr: &Expr, value: bool, partial: &Partial) -> bool
-    ensures { result ≡ false → (c : Items ℕ) → Extends c partial.now → satisfies c expr.now ≡ negation value }
+/// Whether the expression may have the value in a configuration that extends the assignment. False is certain.
+fn can_be(expr: &Expr, value: bool, assignment: &Assignment) -> bool
+    ensures { result ≡ false → (c : Items ℕ) → Extends c assignment.now → satisfies c expr.now ≡ negation value }
 {
     let mut at = expr;
     let mut value = value;
@@ -134,19 +134,19 @@ fn can_be(expr: &Expr, value: bool, partial: &Partial) -> bool
         match at {
             Expr::True => return value,
             Expr::False => return !value,
-            Expr::Feature(feature) => return partial.allows(*feature, value),
+            Expr::Feature(feature) => return assignment.allows(*feature, value),
             Expr::Not(inner) => {
                 value = !value;
                 at = inner.get();
             }
             Expr::And(left, right) => {
-                if can_be(right.get(), value, partial) != value {
+                if can_be(right.get(), value, assignment) != value {
                     return !value;
                 }
                 at = left.get();
             }
             Expr::Or(left, right) => {
-                if can_be(right.get(), value, partial) == value {
+                if can_be(right.get(), value, assignment) == value {
                     return value;
                 }
                 at = left.get();
@@ -155,9 +155,9 @@ fn can_be(expr: &Expr, value: bool, partial: &Partial) -> bool
     }
 }
 
-/// What becomes of the demand that the expression has the value.
-fn fate_of(expr: &Expr, value: bool, partial: &Partial) -> Fate
-    ensures { IsFate expr.now value partial.now result }
+/// What becomes of the constraint that the expression has the value.
+fn status_of(expr: &Expr, value: bool, assignment: &Assignment) -> Status
+    ensures { IsStatus expr.now value assignment.now result }
 {
     let mut at = expr;
     let mut value = value;
@@ -165,22 +165,22 @@ fn fate_of(expr: &Expr, value: bool, partial: &Partial) -> Fate
         match at {
             Expr::True => return fixed(value),
             Expr::False => return fixed(!value),
-            Expr::Feature(feature) => return partial.fate(*feature, value),
+            Expr::Feature(feature) => return assignment.status(*feature, value),
             Expr::Not(inner) => {
                 value = !value;
                 at = inner.get();
             }
             Expr::And(left, right) => {
-                let right = fate_of(right.get(), value, partial);
-                match of_sides(value, left.get(), right, value, partial) {
-                    Some(fate) => return fate,
+                let right = status_of(right.get(), value, assignment);
+                match of_sides(value, left.get(), right, value, assignment) {
+                    Some(status) => return status,
                     None => at = left.get(),
                 }
             }
             Expr::Or(left, right) => {
-                let right = fate_of(right.get(), value, partial);
-                match of_sides(!value, left.get(), right, value, partial) {
-                    Some(fate) => return fate,
+                let right = status_of(right.get(), value, assignment);
+                match of_sides(!value, left.get(), right, value, assignment) {
+                    Some(status) => return status,
                     None => at = left.get(),
                 }
             }
@@ -188,78 +188,87 @@ fn fate_of(expr: &Expr, value: bool, partial: &Partial) -> Fate
     }
 }
 
-fn fixed(met: bool) -> Fate
-    ensures { result ≡ (if met then Fate.Met else Fate.Never) }
+fn fixed(met: bool) -> Status
+    ensures { result ≡ (if met then Status.Satisfied else Status.Falsified) }
 {
-    if met { Fate::Met } else { Fate::Never }
+    if met {
+        Status::Satisfied
+    } else {
+        Status::Falsified
+    }
 }
 
-/// What becomes of two sides, both of which or one of which is demanded, once the right one's fate is known.
+/// What becomes of two sides, both of which or one of which is constrainted, once the right one's status is known.
 /// None: what becomes of the left one.
-fn of_sides(both: bool, left: &Expr, right: Fate, value: bool, partial: &Partial) -> Option<Fate>
-    ensures { IsOfSides both left.now right value partial.now result }
+fn of_sides(
+    both: bool,
+    left: &Expr,
+    right: Status,
+    value: bool,
+    assignment: &Assignment,
+) -> Option<Status>
+    ensures { IsOfSides both left.now right value assignment.now result }
 {
     match right {
-        Fate::Met => if both { None } else { Some(Fate::Met) },
-        Fate::Never => if both { Some(Fate::Never) } else { None },
-        Fate::Open(feature) => Some(if both {
-            of_open_both(feature, left, value, partial)
+        Status::Satisfied => if both { None } else { Some(Status::Satisfied) },
+        Status::Falsified => if both { Some(Status::Falsified) } else { None },
+        Status::Undecided(feature) => Some(if both {
+            of_open_both(feature, left, value, assignment)
         } else {
-            of_open_either(feature, left, value, partial)
+            of_open_either(feature, left, value, assignment)
         }),
     }
 }
 
-fn of_open_both(feature: u8, left: &Expr, value: bool, partial: &Partial) -> Fate
-    ensures { IsOfSides true left.now (Fate.Open feature) value partial.now (Some result) }
+fn of_open_both(feature: u8, left: &Expr, value: bool, assignment: &Assignment) -> Status
+    ensures { IsOfSides true left.now (Status.Undecided feature) value assignment.now (Some result) }
 {
-    if can_be(left, value, partial) {
-        Fate::Open(feature)
+    if can_be(left, value, assignment) {
+        Status::Undecided(feature)
     } else {
-        Fate::Never
+        Status::Falsified
     }
 }
 
-fn of_open_either(feature: u8, left: &Expr, value: bool, partial: &Partial) -> Fate
-    ensures { IsOfSides false left.now (Fate.Open feature) value partial.now (Some result) }
+fn of_open_either(feature: u8, left: &Expr, value: bool, assignment: &Assignment) -> Status
+    ensures { IsOfSides false left.now (Status.Undecided feature) value assignment.now (Some result) }
 {
-    if eval(left, &partial.held) == value {
-        Fate::Met
+    if eval(left, &assignment.held) == value {
+        Status::Satisfied
     } else {
-        Fate::Open(feature)
+        Status::Undecided(feature)
     }
 }
 
-/// What becomes of all demands together. Of the features that they hang on it names one of the last demand's
+/// What becomes of all constraints together. Of the features that they hang on it names one of the last constraint's
 /// that has any.
-pub fn fate_of_all(demands: &[Demand], partial: &Partial) -> Fate
-    ensures { IsFateOfAll demands.now partial.now result }
+pub fn status_of_all(constraints: &[Constraint], assignment: &Assignment) -> Status
+    ensures { IsStatusOfAll constraints.now assignment.now result }
 {
-    let mut all = Fate::Met;
-    for demand in demands {
-        match fate_of(demand.expr, demand.value, partial) {
-            Fate::Met => {}
-            Fate::Never => return Fate::Never,
-            Fate::Open(feature) => all = Fate::Open(feature),
+    let mut all = Status::Satisfied;
+    for constraint in constraints {
+        match status_of(constraint.expr, constraint.value, assignment) {
+            Status::Satisfied => {}
+            Status::Falsified => return Status::Falsified,
+            Status::Undecided(feature) => all = Status::Undecided(feature),
         }
     }
     all
 }
 
-/// A configuration that extends what is settled and meets all demands, if there is one. What it takes may grow
-/// with the number of combinations of the features that occur, and the depth with the number of these
-/// features.
-pub fn search(demands: &[Demand], partial: &Partial) -> Option<Config>
-    ensures met { IfSome result (λ c. all_met c demands.now ≡ true) }
-    ensures occurring { IfSome result (λ c. (i : ℕ) → has_feature c i ≡ true → (has_feature partial.now.held i || occurs i demands.now) ≡ true) }
-    ensures none { IfNone result ((c : Items ℕ) → Extends c partial.now → all_met c demands.now ≡ false) }
+/// A configuration that extends the assignment and meets all constraints, if there is one. The time may grow with
+/// the number of combinations of the features that occur, and the depth with the number of these features.
+pub fn search(constraints: &[Constraint], assignment: &Assignment) -> Option<Config>
+    ensures met { IfSome result (λ c. all_met c constraints.now ≡ true) }
+    ensures occurring { IfSome result (λ c. (i : ℕ) → has_feature c i ≡ true → (has_feature assignment.now.held i || occurs i constraints.now) ≡ true) }
+    ensures none { IfNone result ((c : Items ℕ) → Extends c assignment.now → all_met c constraints.now ≡ false) }
 {
-    match fate_of_all(demands, partial) {
-        Fate::Met => Some(partial.held),
-        Fate::Never => None,
-        Fate::Open(feature) => match search(demands, &partial.holding(feature)) {
+    match status_of_all(constraints, assignment) {
+        Status::Satisfied => Some(assignment.held),
+        Status::Falsified => None,
+        Status::Undecided(feature) => match search(constraints, &assignment.holding(feature)) {
             Some(config) => Some(config),
-            None => search(demands, &partial.without(feature)),
+            None => search(constraints, &assignment.without(feature)),
         },
     }
 }

@@ -1,7 +1,4 @@
-use Rattle.std.proofs.Common.{◌≡◌, List, ℕ, Vec, subst, sym}
 use Rattle.std.proofs.lemmas.List.Elements.{All-push}
-use Rattle.std.specs.List.{All}
-use Rattle.feature_expr.specs.declared.expr.Expr.{Expr}
 use Rattle.condition_sat.specs.Samples.{IsSample}
 use Rattle.condition_sat.proofs.samples.samples_of.Goals as goal
 use Rattle.condition_sat.proofs.samples.samples_of.Goals.{in-Some+in_ok-push-in-Some, in-None}

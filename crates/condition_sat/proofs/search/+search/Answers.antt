@@ -4,12 +4,12 @@ use Rattle.condition_sat.proofs.search.+search.Goals as goal
 
 pub search-requires : goal.search-requires
 search-requires t c =
-    let fewer = fewer_holding c.args.partial.now c.holding.result _ c.in-Open.ensures.0 (record { held = c.holding.ensures.held; lacking = c.holding.ensures.lacking }) in
+    let fewer = fewer_holding c.args.assignment.now c.holding.result _ c.in-Undecided.ensures.0 (record { held = c.holding.ensures.held; lacking = c.holding.ensures.lacking }) in
     (omega (arith, fewer, c.decreases), tt)
 
 pub search-requires-in-None : goal.search-requires-in-None
 search-requires-in-None t c =
-    let fewer = fewer_without c.args.partial.now c.without.result _ c.in-Open.ensures.0 (record { held = c.without.ensures.held; lacking = c.without.ensures.lacking }) in
+    let fewer = fewer_without c.args.assignment.now c.without.result _ c.in-Undecided.ensures.0 (record { held = c.without.ensures.held; lacking = c.without.ensures.lacking }) in
     (omega (arith, fewer, c.decreases), tt)
 
 pub returns-in-None-clause-none : goal.returns-in-None-clause-none

@@ -1,6 +1,6 @@
-use Rattle.condition_sat.proofs.Counting.{unsettled_below}
+use Rattle.condition_sat.proofs.Counting.{unassigned_below}
 use Rattle.condition_sat.proofs.search.+search.Given as goal
 
--- the number of features that aren't settled
+-- the number of features that aren't assigned
 abbrev pub decreases-search : goal.decreases-search
-decreases-search l = unsettled_below l.partial.now 64
+decreases-search l = unassigned_below l.assignment.now 64

@@ -1,5 +1,5 @@
 use Rattle.std.proofs.Common.{sym, ◌∙◌}
-use Rattle.condition_sat.proofs.Settled.{beq_true}
+use Rattle.condition_sat.proofs.Assigned.{beq_true}
 use Rattle.condition_sat.proofs.search.of_open_either.Goals as goal
 
 pub returns-then-eval-value : goal.returns-then-eval-value

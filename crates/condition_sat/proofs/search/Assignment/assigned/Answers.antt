@@ -1,7 +1,7 @@
 use Rattle.std.proofs.Common.{sym, ◌∙◌}
-use Rattle.condition_sat.proofs.Settled.{lacks_above}
-use Rattle.condition_sat.proofs.search.Partial.settled.Goals as goal
-use Rattle.condition_sat.proofs.search.Partial.settled.Goals.{then-feature-ge-FEATURE_LIMIT, else-feature-ge-FEATURE_LIMIT}
+use Rattle.condition_sat.proofs.Assigned.{lacks_above}
+use Rattle.condition_sat.proofs.search.Assignment.assigned.Goals as goal
+use Rattle.condition_sat.proofs.search.Assignment.assigned.Goals.{then-feature-ge-FEATURE_LIMIT, else-feature-ge-FEATURE_LIMIT}
 
 pub returns-then-holds-2 : goal.returns-then-holds-2
 returns-then-holds-2 c =

@@ -1,7 +1,7 @@
-use Rattle.std.proofs.Common.{◌≡◌, ap, sym, ◌∙◌, not}
+use Rattle.std.proofs.Common.{◌∙◌}
 use Rattle.condition_sat.proofs.Nodes.{satisfies-Feature}
-use Rattle.condition_sat.proofs.Settled.{beq_false}
-use Rattle.condition_sat.proofs.search.Partial.allows.Goals as goal
+use Rattle.condition_sat.proofs.Assigned.{beq_false}
+use Rattle.condition_sat.proofs.search.Assignment.allows.Goals as goal
 
 pub returns-in-Some : goal.returns-in-Some
 returns-in-Some c = λ other c' extends.
