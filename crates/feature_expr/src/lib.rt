@@ -9,6 +9,7 @@ mod expr;
 mod features;
 mod list;
 mod memory;
+mod occurring;
 mod parse;
 mod print;
 mod text;
@@ -21,6 +22,7 @@ pub use expr::{Expr, and, copy_expr, eval, not, or, weight};
 pub use features::{Features, FeaturesRefused, is_name, is_name_word, same_word};
 pub use list::List;
 pub use memory::{Memory, TryCopy};
+pub use occurring::features_of;
 pub use parse::{
     ExprRefused, Fault, Reading, deeper, expression, is_sign_at, is_word_at, parse_expr,
     token_place,

@@ -1,0 +1,6 @@
+mod Assigned
+mod Counting
+mod Found
+mod Nodes
+mod Sides
+mod Splits

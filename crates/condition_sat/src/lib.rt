@@ -1,0 +1,12 @@
+//! Satisfiability of conditions under a feature model.
+//!
+//! The search is plain: it splits on one feature after another. Public contracts know nothing of it.
+#![tactic(auto)]
+
+mod model;
+mod samples;
+mod search;
+#[cfg(test)]
+mod tests;
+
+pub use model::Model;
