@@ -1,0 +1,72 @@
+-- Loops that read values one behind the other: what was read, before what reading the rest gives, is what reading all
+-- gives.
+use Rattle.std.proofs.Common.{◌≡◌, ℕ, zero, suc, ◌+◌, ◌-◌, ◌<◌, ◌≤◌, List, [], ◌∷◌, ◌++◌, length, Option, Some, None, Result, Ok, Err, refl, sym, ap, ◌∙◌, append_assoc, arith}
+use Rattle.std.proofs.lemmas.List.{append-nil}
+use Rattle.pg_messages.specs.declared.fields.Fault.{Fault}
+use Rattle.pg_messages.specs.declared.fields.Fault.TheVariants as fault
+use Rattle.pg_messages.specs.Fields.{◌>>=◌, Fails, times, until_end, continued}
+
+abbrev pub joined : {X : Type 0} → List X → Result (List X × List ℕ) ℕ → Result (List X × List ℕ) ℕ
+joined front read = read >>= λ x. Ok (front ++ x.0, x.1)
+
+abbrev listed : {X : Type 0} → List ℕ → List X → Result (List X × List ℕ) ℕ
+listed rest xs = Ok (xs, rest)
+
+joined-push : {X : Type 0} (front : List X) (x : X) (others : Result (List X × List ℕ) ℕ) → joined front (others >>= λ y. Ok (x ∷ y.0, y.1)) ≡ joined (front ++ x ∷ []) others
+joined-push front x (Ok y) = ap (listed y.1) (sym (append_assoc front (x ∷ []) y.0))
+joined-push front x (Err left) = refl
+
+-- ---- up to an end
+
+pub until_fault : {X : Type 0} (next : List ℕ → Result (Option X × List ℕ) ℕ) (front : List X) (n i : ℕ) (bytes : List ℕ) (all : Result (List X × List ℕ) ℕ) (e : Fault) → i < n → Fails e (next bytes) → joined front (until_end next (n - i) bytes) ≡ all → Fails e all
+unfolding until_end
+until_fault next front n i bytes all fault.Memory lt h so_far = tt
+until_fault next front n i bytes all (fault.Before left) lt h so_far =
+    let k : n - i ≡ suc (n - (i + 1)) = omega arith in
+    let one : joined front (until_end next (n - i) bytes) ≡ Err left = rw (k, h) refl in
+    sym so_far ∙ one
+
+pub until_none : {X : Type 0} (next : List ℕ → Result (Option X × List ℕ) ℕ) (front : List X) (n i : ℕ) (bytes after : List ℕ) (all : Result (List X × List ℕ) ℕ) (found : Option X) → i < n → next bytes ≡ Ok (found, after) → found ≡ None → joined front (until_end next (n - i) bytes) ≡ all → all ≡ Ok (front, after)
+unfolding until_end
+until_none next front n i bytes after all found lt h none so_far =
+    let k : n - i ≡ suc (n - (i + 1)) = omega arith in
+    let one : joined front (until_end next (n - i) bytes) ≡ Ok (front ++ [], after) = rw (k, h, none) refl in
+    sym so_far ∙ one ∙ ap (listed after) (append-nil front)
+
+pub until_some : {X : Type 0} (next : List ℕ → Result (Option X × List ℕ) ℕ) (front : List X) (n i : ℕ) (bytes : List ℕ) (all : Result (List X × List ℕ) ℕ) (x : X) (after : List ℕ) → i < n → next bytes ≡ Ok (Some x, after) → joined front (until_end next (n - i) bytes) ≡ all → joined (front ++ x ∷ []) (until_end next (n - (i + 1)) after) ≡ all
+unfolding until_end
+until_some next front n i bytes all x after lt h so_far =
+    let k : n - i ≡ suc (n - (i + 1)) = omega arith in
+    let one : joined front (until_end next (n - i) bytes) ≡ joined front (until_end next (n - (i + 1)) after >>= λ y. Ok (x ∷ y.0, y.1)) = rw (k, h) refl in
+    sym (joined-push front x (until_end next (n - (i + 1)) after)) ∙ sym one ∙ so_far
+
+pub until_out : {X : Type 0} (next : List ℕ → Result (Option X × List ℕ) ℕ) (front : List X) (n i : ℕ) (bytes : List ℕ) (all : Result (List X × List ℕ) ℕ) → n ≤ i → joined front (until_end next (n - i) bytes) ≡ all → all ≡ Err (length bytes)
+unfolding until_end
+until_out next front n i bytes all le so_far =
+    let k : n - i ≡ 0 = omega arith in
+    let one : joined front (until_end next (n - i) bytes) ≡ Err (length bytes) = rw k refl in
+    sym so_far ∙ one
+
+-- ---- so many
+
+pub times_fault : {X : Type 0} (read : List ℕ → Result (X × List ℕ) ℕ) (front : List X) (n i : ℕ) (bytes : List ℕ) (all : Result (List X × List ℕ) ℕ) (e : Fault) → i < n → Fails e (read bytes) → joined front (times read (n - i) bytes) ≡ all → Fails e all
+unfolding times
+times_fault read front n i bytes all fault.Memory lt h so_far = tt
+times_fault read front n i bytes all (fault.Before left) lt h so_far =
+    let k : n - i ≡ suc (n - (i + 1)) = omega arith in
+    let one : joined front (times read (n - i) bytes) ≡ Err left = rw (k, h) refl in
+    sym so_far ∙ one
+
+pub times_one : {X : Type 0} (read : List ℕ → Result (X × List ℕ) ℕ) (front : List X) (n i : ℕ) (bytes : List ℕ) (all : Result (List X × List ℕ) ℕ) (x : X) (after : List ℕ) → i < n → read bytes ≡ Ok (x, after) → joined front (times read (n - i) bytes) ≡ all → joined (front ++ x ∷ []) (times read (n - (i + 1)) after) ≡ all
+unfolding times
+times_one read front n i bytes all x after lt h so_far =
+    let k : n - i ≡ suc (n - (i + 1)) = omega arith in
+    let one : joined front (times read (n - i) bytes) ≡ joined front (times read (n - (i + 1)) after >>= λ y. Ok (x ∷ y.0, y.1)) = rw (k, h) refl in
+    sym (joined-push front x (times read (n - (i + 1)) after)) ∙ sym one ∙ so_far
+
+pub times_out : {X : Type 0} (read : List ℕ → Result (X × List ℕ) ℕ) (front : List X) (n i : ℕ) (bytes : List ℕ) (all : Result (List X × List ℕ) ℕ) → n ≤ i → joined front (times read (n - i) bytes) ≡ all → all ≡ Ok (front, bytes)
+unfolding times
+times_out read front n i bytes all le so_far =
+    let k : n - i ≡ 0 = omega arith in
+    let one : joined front (times read (n - i) bytes) ≡ Ok (front ++ [], bytes) = rw k refl in
+    sym so_far ∙ one ∙ ap (listed bytes) (append-nil front)

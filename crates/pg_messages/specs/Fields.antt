@@ -1,0 +1,57 @@
+-- Fields as they are read from the front of a list of bytes. Reading one gives its value and the bytes behind it, or
+-- else how many bytes are left from the bad field on.
+use Rattle.std.specs.Prelude.{◌≡◌, ℕ, zero, suc, ◌==◌, Bool, List, [], ◌∷◌, length, take, drop, Option, Some, None, Result, Ok, Err, nat_lt, if◌then◌else◌}
+use Rattle.std.specs.Int.{Width, byte_len, from_be_bytes}
+use Rattle.std.specs.List.{position}
+use Rattle.pg_messages.specs.declared.fields.Fault.{Fault}
+use Rattle.pg_messages.specs.declared.fields.Fault.TheVariants as fault
+
+infixl 10 ◌>>=◌
+abbrev pub ◌>>=◌ : {A B : Type 0} → Result A ℕ → (A → Result B ℕ) → Result B ℕ
+(Ok x) >>= f = f x
+(Err left) >>= f = Err left
+
+-- What a reader returned, seen by view, is what reading gives, unless memory ran out.
+abbrev pub Fails : {Y : Type 0} → Fault → Result Y ℕ → Type 0
+Fails fault.Memory read = Unit {0}
+Fails (fault.Before left) read = read ≡ Err left
+
+abbrev pub Gives : {X Y : Type 0} → (X → Y) → Result X Fault → Result Y ℕ → Type 0
+Gives view (Ok x) read = read ≡ Ok (view x)
+Gives view (Err e) read = Fails e read
+
+abbrev pub is_zero : ℕ → Bool
+is_zero byte = byte == 0
+
+abbrev pub number_at : Width → List ℕ → Result (ℕ × List ℕ) ℕ
+number_at w bytes = if nat_lt (length bytes) (byte_len w) then Err (length bytes) else Ok (from_be_bytes w (take (byte_len w) bytes), drop (byte_len w) bytes)
+
+abbrev pub byte_at : List ℕ → Result (ℕ × List ℕ) ℕ
+byte_at [] = Err 0
+byte_at (byte ∷ rest) = Ok (byte, rest)
+
+abbrev pub cut_at : List ℕ → Option ℕ → Result (List ℕ × List ℕ) ℕ
+cut_at bytes None = Err (length bytes)
+cut_at bytes (Some place) = Ok (take place bytes, drop 1 (drop place bytes))
+
+-- the bytes before the first zero byte
+unfoldable pub string_at : List ℕ → Result (List ℕ × List ℕ) ℕ
+string_at bytes = cut_at bytes (position is_zero bytes)
+
+-- n values, one behind the other
+unfoldable pub times : {X : Type 0} → (List ℕ → Result (X × List ℕ) ℕ) → ℕ → List ℕ → Result (List X × List ℕ) ℕ
+times read zero bytes = Ok ([], bytes)
+times read (suc n) bytes = do
+  first ← read bytes
+  others ← times read n first.1
+  Ok (first.0 ∷ others.0, others.1)
+
+abbrev pub continued : {X : Type 0} → (List ℕ → Result (List X × List ℕ) ℕ) → Option X × List ℕ → Result (List X × List ℕ) ℕ
+continued others (None, rest) = Ok ([], rest)
+continued others (Some first, rest) = others rest >>= λ x. Ok (first ∷ x.0, x.1)
+
+-- Values one behind the other, up to the place at which the reader finds their end. Each takes a byte at least, so
+-- as many turns as there are bytes are enough.
+unfoldable pub until_end : {X : Type 0} → (List ℕ → Result (Option X × List ℕ) ℕ) → ℕ → List ℕ → Result (List X × List ℕ) ℕ
+until_end next zero bytes = Err (length bytes)
+until_end next (suc turns) bytes = next bytes >>= continued (until_end next turns)

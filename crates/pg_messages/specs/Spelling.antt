@@ -1,0 +1,38 @@
+-- How the parts of a packet are spelled, and which values have a spelling.
+use Rattle.std.specs.Prelude.{◌≡◌, ℕ, ◌+◌, ◌-◌, ◌^◌, ◌==◌, Bool, not, min, List, [], ◌∷◌, ◌++◌, length, Option, Some, None, Result, Ok, Err, nat_lt, if◌then◌else◌}
+use Rattle.std.specs.Int.{w32, to_be_bytes}
+use Rattle.std.specs.List.{list_all}
+use Rattle.pg_messages.specs.declared.encode_refused.EncodeRefused.{EncodeRefused}
+use Rattle.pg_messages.specs.declared.encode_refused.EncodeRefused.TheVariants as refused
+
+-- bytes may stand as a string if none of them is zero
+abbrev pub is_string : List ℕ → Bool
+is_string bytes = list_all (λ byte. not (byte == 0)) bytes
+
+-- a string ends with a zero byte
+abbrev pub string : List ℕ → List ℕ
+string bytes = bytes ++ 0 ∷ []
+
+-- a message with this type byte; its length counts itself and the body
+abbrev pub message : ℕ → List ℕ → List ℕ
+message kind body = kind ∷ to_be_bytes w32 (length body + 4) ++ body
+
+-- a number of bytes as it is told, which the greatest u64 stands for where it is above that
+abbrev pub told : ℕ → ℕ
+told n = min n (2 ^ 64 - 1)
+
+-- Why a packet isn't written: its value has no spelling, or its length is above the greatest of its kind.
+abbrev pub refusal_of : Bool → ℕ → ℕ → Option EncodeRefused
+refusal_of has_spelling length most = if has_spelling then (if nat_lt most length then Some (refused.TooLong (told length)) else None) else Some refused.NotSpelled
+
+-- An encoder refuses what has this refusal, and nothing else, unless memory runs out.
+abbrev pub Refuses : Result (Unit {0}) EncodeRefused → Option EncodeRefused → Type 0
+Refuses (Ok done) refusal = refusal ≡ None
+Refuses (Err refused.NotSpelled) refusal = refusal ≡ Some refused.NotSpelled
+Refuses (Err (refused.TooLong n)) refusal = refusal ≡ Some (refused.TooLong n)
+Refuses (Err refused.Memory) refusal = refusal ≡ None
+
+-- the length field of a packet that may be written, or the refusal
+abbrev pub Checks : Result ℕ EncodeRefused → ℕ → Option EncodeRefused → Type 0
+Checks (Ok n) length refusal = (n ≡ length) × (refusal ≡ None)
+Checks (Err why) length refusal = refusal ≡ Some why

@@ -1,0 +1,27 @@
+//! The messages of the PostgreSQL protocol 3.0 as values and as bytes, both ways. No state is kept between calls.
+//!
+//! The path of a type's file is part of this crate's interface: a specification above names it.
+#![tactic(auto)]
+
+mod back;
+mod back_reading;
+mod decoded;
+mod encode_refused;
+mod fields;
+mod front;
+mod front_reading;
+mod front_writing;
+mod packet;
+mod puts;
+mod startup;
+mod startup_reading;
+
+pub use back::{Back, ErrorField, Field, Status};
+pub use back_reading::decode_back;
+pub use decoded::{Decoded, Why};
+pub use encode_refused::EncodeRefused;
+pub use front::Front;
+pub use front_reading::{decided_front, decode_front};
+pub use front_writing::encode_front;
+pub use startup::{Pair, Startup};
+pub use startup_reading::{decided_startup, decode_startup};
