@@ -9,8 +9,7 @@ use Rattle.pg_messages.specs.declared.back.ErrorField.{ErrorField}
 use Rattle.pg_messages.specs.declared.back.Field.{Field}
 use Rattle.pg_messages.specs.declared.back.Status.{Status}
 use Rattle.pg_messages.specs.declared.back.Status.TheVariants as status
-use Rattle.pg_messages.specs.declared.back.TheConstants.{BACK_LIMIT}
-use Rattle.pg_messages.specs.declared.back_reading.TheConstants.{NULL}
+use Rattle.pg_messages.specs.declared.back.TheConstants.{BACK_LIMIT, MINUS_ONE}
 use Rattle.pg_messages.specs.declared.decoded.Decoded.{Decoded}
 use Rattle.pg_messages.specs.declared.packet.Head.{Head}
 use Rattle.pg_messages.specs.declared.packet.Head.TheVariants as head
@@ -66,7 +65,7 @@ field_at bytes = do
 -- is a signed number: -1 is a null cell, and those below are none.
 abbrev pub sized_cell : List ℕ → ℕ → List ℕ → Result (Option (List ℕ) × List ℕ) ℕ
 sized_cell bytes size rest =
-    if size == NULL then Ok (None, rest) else if nat_lt BACK_LIMIT size then Err (length bytes) else if nat_lt (length rest) size then Err (length rest) else Ok (Some (take size rest), drop size rest)
+    if size == MINUS_ONE then Ok (None, rest) else if nat_lt BACK_LIMIT size then Err (length bytes) else if nat_lt (length rest) size then Err (length rest) else Ok (Some (take size rest), drop size rest)
 
 unfoldable pub cell_at : List ℕ → Result (Option (List ℕ) × List ℕ) ℕ
 cell_at bytes = number_at w32 bytes >>= λ size. sized_cell bytes size.0 size.1

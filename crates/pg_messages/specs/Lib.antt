@@ -1,7 +1,9 @@
 pub mod BackReading
+pub mod BackSpelling
 pub mod Fields
 pub mod FrontReading
 pub mod FrontSpelling
 pub mod Packet
 pub mod Spelling
 pub mod StartupReading
+pub mod StartupSpelling

@@ -52,7 +52,6 @@ packet_of body_of skipped head.More bytes = decoded.More
 packet_of body_of skipped (head.Bad place cause) bytes = decoded.Bad place cause
 packet_of body_of skipped (head.Packet kind n) bytes = decoded_as n (body_of kind (drop skipped (take n bytes)))
 
-
 -- a packet may be going on
 abbrev pub is_more : {T : Type 0} → Decoded T → Bool
 is_more (decoded.Whole packet length) = false

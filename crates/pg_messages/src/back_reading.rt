@@ -3,15 +3,12 @@ ghost use Rattle.pg_messages.specs.Fields.{Gives, times, until_end};
 ghost use Rattle.pg_messages.specs.Packet.{Answers, IsWithin};
 ghost use Rattle.pg_messages.specs.BackReading.{back_kind, back_head, back_fields, back_body, back_of, zero_at, status_at, format_at, field_at, cell_at, next_error_field};
 
-use crate::back::{BACK_LIMIT, Back, BackKind, ErrorField, Field, Status};
+use crate::back::{BACK_LIMIT, Back, BackKind, ErrorField, Field, MINUS_ONE, Status};
 use crate::decoded::Decoded;
 use crate::fields::{Fault, read_byte, read_text, read_u16, read_u32};
 use crate::packet::{Head, MESSAGE_HEAD, decoded, read_message_head};
 use feature_expr::{List, Text};
 use std::alloc::Global;
-
-/// The length of a null cell, -1 as four bytes.
-const NULL: u32 = 4_294_967_295;
 
 /// The message of a server at the front of the bytes. What lies behind it isn't looked at.
 #[tactic(auto, unfolding(crate::specs::BackReading::back_of), using(crate::proofs::Packets::answers_decoded))]
@@ -163,7 +160,15 @@ fn read_field(alloc: Global, bytes: &[u8]) -> Result<(Field, &[u8]), Fault>
     let (_, rest) = read_u32(rest)?;
     let (format, rest) = read_format(rest)?;
     let size = size.cast_signed();
-    Ok((Field { name, kind_number, size, format }, rest))
+    Ok((
+        Field {
+            name,
+            kind_number,
+            size,
+            format,
+        },
+        rest,
+    ))
 }
 
 fn read_format(bytes: &[u8]) -> Result<(u16, &[u8]), Fault>
@@ -198,7 +203,7 @@ fn read_cell(alloc: Global, bytes: &[u8]) -> Result<(Option<Text>, &[u8]), Fault
     ensures { Gives (λ x. (x.0, x.1.now)) result (cell_at bytes.now) }
 {
     let (size, rest) = read_u32(bytes)?;
-    if size == NULL {
+    if size == MINUS_ONE {
         return Ok((None, rest));
     }
     if size > BACK_LIMIT {

@@ -18,6 +18,7 @@ pub enum Fault {
 
 impl From<Memory> for Fault {
     ghost use Rattle.pg_messages.specs.declared.fields.Fault.TheVariants as fault;
+
     ghost from_gives = { λ _ e. e ≡ fault.Memory };
 
     fn from(_memory: Memory) -> Fault {

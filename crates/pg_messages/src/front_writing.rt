@@ -4,7 +4,9 @@ ghost use Rattle.pg_messages.specs.FrontSpelling.{front_byte, front_layout, fron
 
 use crate::encode_refused::EncodeRefused;
 use crate::front::{FRONT_LIMIT, Front};
-use crate::puts::{checked_length, is_string_text, put_byte, put_string, put_u32, room_for, string_len};
+use crate::puts::{
+    checked_length, is_string_text, put_byte, put_string, put_u32, room_for, string_len,
+};
 
 /// Writes a message at the end. What was there stays, whatever the answer.
 #[tactic(auto, using(crate::proofs::Lengths::refusal_told))]

@@ -5,6 +5,7 @@
 
 mod back;
 mod back_reading;
+mod back_writing;
 mod decoded;
 mod encode_refused;
 mod fields;
@@ -15,9 +16,11 @@ mod packet;
 mod puts;
 mod startup;
 mod startup_reading;
+mod startup_writing;
 
 pub use back::{Back, ErrorField, Field, Status};
 pub use back_reading::decode_back;
+pub use back_writing::encode_back;
 pub use decoded::{Decoded, Why};
 pub use encode_refused::EncodeRefused;
 pub use front::Front;
@@ -25,3 +28,4 @@ pub use front_reading::{decided_front, decode_front};
 pub use front_writing::encode_front;
 pub use startup::{Pair, Startup};
 pub use startup_reading::{decided_startup, decode_startup};
+pub use startup_writing::encode_startup;

@@ -134,7 +134,11 @@ fn read_pair(alloc: Global, bytes: &[u8]) -> Result<(Option<Pair>, &[u8]), Fault
 {
     let (name, rest) = read_string(bytes)?;
     if name.is_empty() {
-        return if rest.is_empty() { Ok((None, rest)) } else { Err(Fault::Before(bytes.len())) };
+        return if rest.is_empty() {
+            Ok((None, rest))
+        } else {
+            Err(Fault::Before(bytes.len()))
+        };
     }
     let (value, rest) = read_string(rest)?;
     let name = Text::from_slice(alloc, name)?;
