@@ -1,3 +1,6 @@
+pub mod FieldLaws
+pub mod FrontLaws
 pub mod Lengths
 pub mod Loops
+pub mod MessageLaws
 pub mod Packets
