@@ -4,3 +4,5 @@ pub mod Lengths
 pub mod Loops
 pub mod MessageLaws
 pub mod Packets
+pub mod SequenceLaws
+pub mod StartupLaws

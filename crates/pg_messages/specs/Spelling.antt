@@ -16,6 +16,11 @@ is_string bytes = list_all (λ byte. not (byte == 0)) bytes
 abbrev pub string : List ℕ → List ℕ
 string bytes = bytes ++ 0 ∷ []
 
+-- the texts of the values, one behind the other
+abbrev pub AreSpelled : {X : Type 0} → (X → List ℕ → Type 0) → List X → List ℕ → Type 0
+AreSpelled IsText [] text = text ≡ []
+AreSpelled IsText (x ∷ xs) text = (first others : List ℕ) × (text ≡ first ++ others) × IsText x first × AreSpelled IsText xs others
+
 -- a message with this type byte; its length counts itself and the body
 abbrev pub message : ℕ → List ℕ → List ℕ
 message kind body = kind ∷ to_be_bytes w32 (length body + 4) ++ body
