@@ -2,9 +2,10 @@
 use Rattle.std.proofs.Common.{◌≡◌, ℕ, zero, suc, ◌+◌, ◌^◌, ◌<◌, ◌≤◌, Bool, true, false, cond, ltb, eqb, List, [], ◌∷◌, ◌++◌, length, take, drop, Option, Some, None, Result, Ok, Err, refl, sym, ap, ap₂, subst, ◌∙◌, append_assoc, arith, inl, inr, lit<}
 use Rattle.std.specs.Prelude.{◌⊎◌}
 use Rattle.std.proofs.lemmas.Bool.{cases_Bool, eqb-true}
-use Rattle.std.proofs.lemmas.List.{append-nil}
+use Rattle.std.proofs.lemmas.List.{append-nil, length-append}
 use Rattle.pg_messages.specs.declared.decoded.Decoded.{Decoded}
 use Rattle.pg_messages.specs.declared.decoded.Decoded.TheVariants as decoded
+use Rattle.pg_messages.specs.declared.decoded.Why.{Why}
 use Rattle.pg_messages.specs.declared.front.Front.{Front}
 use Rattle.pg_messages.specs.declared.front.Front.TheVariants as front
 use Rattle.pg_messages.specs.declared.front.FrontKind.{FrontKind}
@@ -15,10 +16,11 @@ use Rattle.pg_messages.specs.declared.packet.Head.TheVariants as head
 use Rattle.pg_messages.specs.Fields.{◌>>=◌, string_at}
 use Rattle.pg_messages.specs.Packet.{message_head, ended, packet_of, is_more, is_more_head}
 use Rattle.pg_messages.specs.FrontReading.{front_kind, front_head, front_fields, front_body, front_of}
-use Rattle.pg_messages.specs.FrontSpelling.{front_byte, front_layout, front_bytes, is_spelled_front, IsFront}
+use Rattle.pg_messages.specs.FrontSpelling.{front_byte, front_layout, front_bytes, is_spelled_front, front_refusal, IsFront}
 use Rattle.pg_messages.specs.Spelling.{IsBytes, is_string, string, message}
 use Rattle.pg_messages.proofs.FieldLaws.{bind_ok, ok_is, ended_ok, ended_again, string_again, string_takes}
 use Rattle.pg_messages.proofs.MessageLaws.{message_again, message_takes, head_kept, head_within, packet_kept}
+use Rattle.pg_messages.proofs.Lengths.{refusal_none}
 use Rattle.pg_messages.proofs.Packets.{is_more_packet}
 
 abbrev kind_of : Front → FrontKind
@@ -118,3 +120,44 @@ whole_is m k a b e = cc
 
 pub front_one : (m k : Front) (packet : List ℕ) → IsFront m packet → IsFront k packet → m ≡ k
 front_one m k packet a b = whole_is m k _ _ (sym (front_again m packet [] a) ∙ front_again k packet [] b)
+
+-- ---- a front of a packet, and bad bytes
+
+more_is : (answer : Decoded Front) → is_more answer ≡ true → answer ≡ decoded.More
+more_is (decoded.Whole packet length) h = absurd cc
+more_is decoded.More h = refl
+more_is (decoded.Bad place cause) h = absurd cc
+more_is decoded.Memory h = absurd cc
+
+abbrev bad_at : ℕ → Why → Decoded Front
+bad_at place cause = decoded.Bad place cause
+
+bad_is : (place : ℕ) (cause : Why) (m : Front) (n : ℕ) → bad_at place cause ≡ decoded.Whole m n → ⊥
+bad_is place cause m n e = cc
+
+behind : (bytes more : List ℕ) (m : Front) (packet rest : List ℕ) → IsFront m packet → bytes ++ more ≡ packet ++ rest → is_more (front_of bytes) ≡ false → front_of bytes ≡ decoded.Whole m (length packet)
+behind bytes more m packet rest is same told = sym (front_kept bytes more told) ∙ ap front_of same ∙ front_again m packet rest is
+
+-- a packet that isn't all there is waited for
+pub front_front : (bytes more : List ℕ) (m : Front) → IsBytes bytes → 0 < length more → IsFront m (bytes ++ more) → front_of bytes ≡ decoded.More
+front_front bytes more m fits missing is =
+    elim (cases_Bool (is_more (front_of bytes))) [
+      | inl more_told ↦ more_is (front_of bytes) more_told
+      | inr told ↦
+        let whole = behind bytes more m (bytes ++ more) [] is (sym (append-nil (bytes ++ more))) told in
+        let within = (front_takes bytes m (length (bytes ++ more)) fits whole).0 in
+        absurd (omega (arith, within, length-append bytes more))
+    ]
+
+-- no packet begins with bad bytes, or is a front of them
+pub front_bad : (bytes more : List ℕ) (m : Front) (packet rest : List ℕ) (place : ℕ) (cause : Why) → front_of bytes ≡ decoded.Bad place cause → IsFront m packet → bytes ++ more ≡ packet ++ rest → ⊥
+front_bad bytes more m packet rest place cause bad is same =
+    let told : is_more (front_of bytes) ≡ false = ap is_more bad in
+    bad_is place cause m (length packet) (sym bad ∙ behind bytes more m packet rest is same told)
+
+-- ---- what the encoder writes
+
+pub front_written : (m : Front) → front_refusal m ≡ None → IsFront m (front_bytes m)
+front_written m h =
+    let fits = refusal_none (is_spelled_front m) (length (front_layout m) + 4) FRONT_LIMIT h in
+    record { spelled = fits.0; within = fits.1; bytes = refl }

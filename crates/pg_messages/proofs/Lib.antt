@@ -1,3 +1,4 @@
+pub mod BackLaws
 pub mod FieldLaws
 pub mod FrontLaws
 pub mod Lengths

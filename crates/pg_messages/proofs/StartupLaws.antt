@@ -7,6 +7,7 @@ use Rattle.std.proofs.lemmas.Bool.{cases_Bool, eqb-true, ne_eqb, ltb-false, le-l
 use Rattle.std.proofs.lemmas.List.{append-nil, take_at, drop_at, take-append-drop, take-append-le, drop-append-le, take-take, drop-take, length-append, length-take, length-drop, nil_from_length}
 use Rattle.pg_messages.specs.declared.decoded.Decoded.{Decoded}
 use Rattle.pg_messages.specs.declared.decoded.Decoded.TheVariants as decoded
+use Rattle.pg_messages.specs.declared.decoded.Why.{Why}
 use Rattle.pg_messages.specs.declared.decoded.Why.TheVariants as why
 use Rattle.pg_messages.specs.declared.packet.Head.{Head}
 use Rattle.pg_messages.specs.declared.packet.Head.TheVariants as head
@@ -20,9 +21,10 @@ use Rattle.pg_messages.specs.Fields.{◌>>=◌, string_at, until_end}
 use Rattle.pg_messages.specs.Packet.{packet_of, is_more, is_more_head}
 use Rattle.pg_messages.specs.Spelling.{IsBytes, is_string, string}
 use Rattle.pg_messages.specs.StartupReading.{startup_kind, has_length, coded_head, sized_head, startup_head, named_pair, next_pair, startup_fields, startup_of}
-use Rattle.pg_messages.specs.StartupSpelling.{startup_code, pair_bytes, startup_layout, startup_packet, is_pair, is_spelled_startup, IsRest, IsStartup}
+use Rattle.pg_messages.specs.StartupSpelling.{startup_code, pair_bytes, startup_layout, startup_packet, startup_bytes, startup_refusal, is_pair, is_spelled_startup, IsRest, IsStartup}
 use Rattle.pg_messages.proofs.FieldLaws.{bind_ok, ok_is, Takes, Takes-then, string_again, string_takes, guarded_ok, wide32, IsBytes-take, IsBytes-drop}
 use Rattle.pg_messages.proofs.MessageLaws.{packet_takes, packet_kept}
+use Rattle.pg_messages.proofs.Lengths.{refusal_none}
 use Rattle.pg_messages.proofs.Packets.{is_more_packet}
 use Rattle.pg_messages.proofs.SequenceLaws.{NextTakes, AllTaken, until_takes, until_again}
 
@@ -309,3 +311,48 @@ whole_is m k a b e = cc
 
 pub startup_one : (m k : Startup) (packet : List ℕ) → IsStartup m packet → IsStartup k packet → m ≡ k
 startup_one m k packet a b = whole_is m k _ _ (sym (startup_again m packet [] a) ∙ startup_again k packet [] b)
+
+-- ---- a front of a packet, and bad bytes
+
+more_is : (answer : Decoded Startup) → is_more answer ≡ true → answer ≡ decoded.More
+more_is (decoded.Whole packet length) h = absurd cc
+more_is decoded.More h = refl
+more_is (decoded.Bad place cause) h = absurd cc
+more_is decoded.Memory h = absurd cc
+
+abbrev bad_at : ℕ → Why → Decoded Startup
+bad_at place cause = decoded.Bad place cause
+
+bad_is : (place : ℕ) (cause : Why) (m : Startup) (n : ℕ) → bad_at place cause ≡ decoded.Whole m n → ⊥
+bad_is place cause m n e = cc
+
+behind : (bytes more : List ℕ) (m : Startup) (packet rest : List ℕ) → IsStartup m packet → bytes ++ more ≡ packet ++ rest → is_more (startup_of bytes) ≡ false → startup_of bytes ≡ decoded.Whole m (length packet)
+behind bytes more m packet rest is same told = sym (startup_kept bytes more told) ∙ ap startup_of same ∙ startup_again m packet rest is
+
+-- a packet that isn't all there is waited for
+pub startup_front : (bytes more : List ℕ) (m : Startup) → IsBytes bytes → 0 < length more → IsStartup m (bytes ++ more) → startup_of bytes ≡ decoded.More
+startup_front bytes more m fits missing is =
+    elim (cases_Bool (is_more (startup_of bytes))) [
+      | inl more_told ↦ more_is (startup_of bytes) more_told
+      | inr told ↦
+        let whole = behind bytes more m (bytes ++ more) [] is (sym (append-nil (bytes ++ more))) told in
+        let within = (startup_takes bytes m (length (bytes ++ more)) fits whole).0 in
+        absurd (omega (arith, within, length-append bytes more))
+    ]
+
+-- no packet begins with bad bytes, or is a front of them
+pub startup_bad : (bytes more : List ℕ) (m : Startup) (packet rest : List ℕ) (place : ℕ) (cause : Why) → startup_of bytes ≡ decoded.Bad place cause → IsStartup m packet → bytes ++ more ≡ packet ++ rest → ⊥
+startup_bad bytes more m packet rest place cause bad is same =
+    let told : is_more (startup_of bytes) ≡ false = ap is_more bad in
+    bad_is place cause m (length packet) (sym bad ∙ behind bytes more m packet rest is same told)
+
+-- ---- what the encoder writes
+
+laid_out : (m : Startup) → IsRest m (startup_layout m)
+laid_out (startup.Start pairs) = refl
+laid_out (startup.Other code) = tt
+
+pub startup_written : (m : Startup) → startup_code m < 2 ^ 32 → startup_refusal m ≡ None → IsStartup m (startup_bytes m)
+startup_written m code h =
+    let fits = refusal_none (is_spelled_startup m) (length (startup_layout m) + 8) STARTUP_LIMIT h in
+    record { spelled = fits.0; code = code; rest = startup_layout m; laid_out = laid_out m; within = fits.1; bytes = refl }
