@@ -1,10 +1,10 @@
 -- The backend messages: what is spelled is read, and what is read is spelled so.
-use Rattle.std.proofs.Common.{Fits, ◌≡◌, ℕ, zero, suc, ◌+◌, ◌-◌, ◌^◌, ◌<◌, ◌≤◌, Bool, true, false, not, cond, ltb, leb, eqb, List, [], ◌∷◌, ◌++◌, length, take, drop, Option, Some, None, Result, Ok, Err, refl, sym, ap, ap₂, subst, ◌∙◌, append_assoc, arith, inl, inr, lit<}
-use Rattle.std.specs.Prelude.{◌⊎◌, ◌&&◌, ◌==◌, nat_le, FitsSigned, ℤ}
+use Rattle.std.proofs.Common.{Fits, ◌≡◌, ℕ, suc, ◌+◌, ◌^◌, ◌<◌, ◌≤◌, true, false, not, cond, ltb, List, [], ◌∷◌, ◌++◌, length, take, drop, Option, Some, None, Result, Ok, Err, refl, sym, ap, ap₂, subst, ◌∙◌, append_assoc, arith, inl, inr, lit<}
+use Rattle.std.specs.Prelude.{◌==◌, nat_le, FitsSigned, ℤ}
 use Rattle.std.specs.Int.{Width, byte_len, w16, w32, from_be_bytes, to_be_bytes, cast_signed, cast_unsigned}
 use Rattle.std.specs.List.{flat_map, list_all, AllByRecursion}
 use Rattle.std.proofs.lemmas.Bool.{cases_Bool, eqb-true, ne_eqb, ltb-false, le-ltb, le-leb, leb-true, and_parts, and_from, not-true}
-use Rattle.std.proofs.lemmas.List.{append-nil, take_at, drop_at, take-append-drop, length-append, length-take, length-drop, nil_from_length}
+use Rattle.std.proofs.lemmas.List.{append-nil, take_at, drop_at, take-append-drop, length-append, length-take}
 use Rattle.std.proofs.lemmas.Int.{of_z-to_z, to_z-of_z}
 use Rattle.std.proofs.Math.Facts.{Fits-of_z, Fits-of_lt, Fits-lt-pow, sfits_to_z}
 use Rattle.pg_messages.specs.declared.back.Back.{Back}
@@ -20,17 +20,16 @@ use Rattle.pg_messages.specs.declared.decoded.Decoded.{Decoded}
 use Rattle.pg_messages.specs.declared.decoded.Decoded.TheVariants as decoded
 use Rattle.pg_messages.specs.declared.decoded.Why.{Why}
 use Rattle.pg_messages.specs.declared.packet.Head.{Head}
-use Rattle.pg_messages.specs.declared.packet.Head.TheVariants as head
 use Rattle.pg_messages.specs.BackReading.{back_kind, back_head, zero_at, status_told, status_at, field_of, error_field_of, format_at, field_at, sized_cell, cell_at, coded_field, next_error_field, back_fields, back_body, back_of}
 use Rattle.pg_messages.specs.BackSpelling.{back_byte, status_byte, field_with, IsFieldText, field_bytes, cell_bytes, error_field_bytes, back_layout, back_bytes, back_refusal, is_field, is_error_field, is_spelled_back, HasFieldNumbers, HasNumbers, IsBody, IsBack}
 use Rattle.pg_messages.specs.Fields.{◌>>=◌, number_at, byte_at, string_at, times, until_end}
 use Rattle.pg_messages.specs.Packet.{message_head, ended, packet_of, is_more, is_more_head}
 use Rattle.pg_messages.specs.Spelling.{IsBytes, AreSpelled, is_string, string, message}
-use Rattle.pg_messages.proofs.FieldLaws.{bind_ok, ok_is, guard_ok, guarded_ok, ended_ok, ended_again, Takes, Takes-then, wide16, wide32, number_takes, number_again, byte_takes, string_again, string_takes, IsBytes-take, IsBytes-drop}
+use Rattle.pg_messages.proofs.FieldLaws.{bind_ok, ok_is, guard_ok, guarded_ok, ended_ok, ended_again, Takes, Takes-then, wide16, wide32, number_takes, number_again, byte_takes, string_again, string_takes, IsBytes-drop}
 use Rattle.pg_messages.proofs.MessageLaws.{message_again, message_takes, head_kept, head_within, packet_kept}
 use Rattle.pg_messages.proofs.Lengths.{refusal_none}
 use Rattle.pg_messages.proofs.Packets.{is_more_packet}
-use Rattle.pg_messages.proofs.SequenceLaws.{NextTakes, AllTaken, until_takes, until_again, times_take, times_again}
+use Rattle.pg_messages.proofs.SequenceLaws.{NextTakes, until_takes, until_again, times_take, times_again}
 
 -- ---- the number 0, a status, a format
 
@@ -114,7 +113,7 @@ field_made bytes name table attribute kind size modifier format r1 r2 r3 r4 r5 r
     let back : cast_unsigned w16 (cast_signed w16 size) ≡ size = of_z-to_z w16 size size_fits in
     let text = string name ++ to_be_bytes w32 table ++ to_be_bytes w16 attribute ++ to_be_bytes w32 kind ++ to_be_bytes w16 size ++ to_be_bytes w32 modifier ++ to_be_bytes w16 format in
     let spelled : string name ++ to_be_bytes w32 table ++ to_be_bytes w16 attribute ++ to_be_bytes w32 kind ++ to_be_bytes w16 size ++ to_be_bytes w32 modifier ++ to_be_bytes w16 format ≡ field_with table attribute modifier (field_of name kind size format) =
-      ap (λ (k : ℕ). string name ++ to_be_bytes w32 table ++ to_be_bytes w16 attribute ++ to_be_bytes w32 kind ++ to_be_bytes w16 k ++ to_be_bytes w32 modifier ++ to_be_bytes w16 format) (sym back) in
+    ap (λ (k : ℕ). string name ++ to_be_bytes w32 table ++ to_be_bytes w16 attribute ++ to_be_bytes w32 kind ++ to_be_bytes w16 k ++ to_be_bytes w32 modifier ++ to_be_bytes w16 format) (sym back) in
     let in_width : Fits w16 size = Fits-of_lt size_fits in
     let size_signed : FitsSigned w16 (cast_signed w16 size) = sfits_to_z in_width in
     let is : IsSpelledField (field_of name kind size format) (string name ++ to_be_bytes w32 table ++ to_be_bytes w16 attribute ++ to_be_bytes w32 kind ++ to_be_bytes w16 size ++ to_be_bytes w32 modifier ++ to_be_bytes w16 format) = record {
@@ -188,9 +187,9 @@ field_again f text rest is =
     let attribute = skipped w16 c (d ++ (e ++ (g ++ (h ++ rest)))) (wide16.len is.text_is.1) in
     let modifier = skipped w32 g (h ++ rest) (wide32.len is.text_is.2) in
     let read = field_read a b c d e g h rest f.name table.0 attribute.0 f.kind_number (cast_unsigned w16 f.size) modifier.0 f.format
-      (string_again f.name (b ++ (c ++ (d ++ (e ++ (g ++ (h ++ rest)))))) good.0) table.1 attribute.1
-      (number_again w32 (2 ^ 32) wide32 f.kind_number (e ++ (g ++ (h ++ rest))) is.numbers.kind_number)
-      (number_again w16 (2 ^ 16) wide16 (cast_unsigned w16 f.size) (g ++ (h ++ rest)) size_fits) modifier.1 (format_again f.format rest good.1) in
+    (string_again f.name (b ++ (c ++ (d ++ (e ++ (g ++ (h ++ rest)))))) good.0) table.1 attribute.1
+    (number_again w32 (2 ^ 32) wide32 f.kind_number (e ++ (g ++ (h ++ rest))) is.numbers.kind_number)
+    (number_again w16 (2 ^ 16) wide16 (cast_unsigned w16 f.size) (g ++ (h ++ rest)) size_fits) modifier.1 (format_again f.format rest good.1) in
     let same : field_of f.name f.kind_number (cast_unsigned w16 f.size) f.format ≡ f = ap (λ z. sized f z) size in
     ap field_at (ap (λ (t : List ℕ). t ++ rest) is.text_is.3 ∙ seven a b c d e g h rest) ∙ read ∙ ap (read_field rest) same
 
@@ -209,19 +208,19 @@ sized_takes : (bytes : List ℕ) (size : ℕ) (after : List ℕ) (c : Option (Li
 sized_takes bytes size after c rest took e =
     elim (cases_Bool (size == MINUS_ONE)) [
       | inl null ↦
-        let whole : Takes bytes (cell_bytes None) after = subst (λ (k : ℕ). Takes bytes (to_be_bytes w32 k) after) (eqb-true size MINUS_ONE null) took in
-        subst (λ (x : Option (List ℕ) × List ℕ). (text : List ℕ) × (text ≡ cell_bytes x.0) × Takes bytes text x.1) (ok_is (None, after) (c, rest) (rw null at e)) (cell_bytes None, refl, whole)
+          let whole : Takes bytes (cell_bytes None) after = subst (λ (k : ℕ). Takes bytes (to_be_bytes w32 k) after) (eqb-true size MINUS_ONE null) took in
+          subst (λ (x : Option (List ℕ) × List ℕ). (text : List ℕ) × (text ≡ cell_bytes x.0) × Takes bytes text x.1) (ok_is (None, after) (c, rest) (rw null at e)) (cell_bytes None, refl, whole)
       | inr other ↦ elim (cases_Bool (ltb BACK_LIMIT size)) [
         | inl below ↦ absurd (no_cell (length bytes) c rest (rw (other, below) at e))
         | inr low ↦ elim (cases_Bool (ltb (length after) size)) [
           | inl short ↦ absurd (no_cell (length after) c rest (rw (other, low, short) at e))
           | inr long ↦
-            let len : length (take size after) ≡ size = omega (arith, length-take size after, ltb-false (length after) size long) in
-            let behind : Takes after (take size after) (drop size after) = record { parts = sym (take-append-drop size after); rest_fits = IsBytes-drop size after took.rest_fits } in
-            let both = Takes-then bytes (to_be_bytes w32 size) after (take size after) (drop size after) took behind in
-            let whole : Takes bytes (cell_bytes (Some (take size after))) (drop size after) = subst (λ (k : ℕ). Takes bytes (to_be_bytes w32 k ++ take size after) (drop size after)) (sym len) both in
-            let found : read_cell (Some (take size after)) (drop size after) ≡ Ok (c, rest) = rw (other, low, long) at e in
-            subst (λ (x : Option (List ℕ) × List ℕ). (text : List ℕ) × (text ≡ cell_bytes x.0) × Takes bytes text x.1) (ok_is (Some (take size after), drop size after) (c, rest) found) (cell_bytes (Some (take size after)), refl, whole)
+              let len : length (take size after) ≡ size = omega (arith, length-take size after, ltb-false (length after) size long) in
+              let behind : Takes after (take size after) (drop size after) = record { parts = sym (take-append-drop size after); rest_fits = IsBytes-drop size after took.rest_fits } in
+              let both = Takes-then bytes (to_be_bytes w32 size) after (take size after) (drop size after) took behind in
+              let whole : Takes bytes (cell_bytes (Some (take size after))) (drop size after) = subst (λ (k : ℕ). Takes bytes (to_be_bytes w32 k ++ take size after) (drop size after)) (sym len) both in
+              let found : read_cell (Some (take size after)) (drop size after) ≡ Ok (c, rest) = rw (other, low, long) at e in
+              subst (λ (x : Option (List ℕ) × List ℕ). (text : List ℕ) × (text ≡ cell_bytes x.0) × Takes bytes text x.1) (ok_is (Some (take size after), drop size after) (c, rest) found) (cell_bytes (Some (take size after)), refl, whole)
         ]
       ]
     ]
@@ -283,16 +282,16 @@ coded_takes : (bytes : List ℕ) (code : ℕ) (after : List ℕ) (x : Option Err
 coded_takes bytes code after x took e =
     elim (cases_Bool (code == 0)) [
       | inl ends ↦
-        let none : Option ErrorField × List ℕ = (None, after) in
-        let last : NextTakes error_field_bytes is_error_field IsEnd bytes none = (subst (λ (k : ℕ). Takes bytes (k ∷ []) after) (eqb-true code 0 ends) took, tt) in
-        subst (NextTakes error_field_bytes is_error_field IsEnd bytes) (ok_is none x (rw ends at e)) last
+          let none : Option ErrorField × List ℕ = (None, after) in
+          let last : NextTakes error_field_bytes is_error_field IsEnd bytes none = (subst (λ (k : ℕ). Takes bytes (k ∷ []) after) (eqb-true code 0 ends) took, tt) in
+          subst (NextTakes error_field_bytes is_error_field IsEnd bytes) (ok_is none x (rw ends at e)) last
       | inr other ↦
-        let goes : (string_at after >>= λ text. Ok (Some (error_field_of code text.0), text.1)) ≡ Ok x = rw other at e in
-        let a = bind_ok (string_at after) (λ text. Ok (Some (error_field_of code text.0), text.1)) x goes in
-        let t = string_takes after a.0.0 a.0.1 took.rest_fits a.1 in
-        let both = Takes-then bytes (code ∷ []) after (string a.0.0) a.0.1 took t.0 in
-        let field : NextTakes error_field_bytes is_error_field IsEnd bytes (Some (error_field_of code a.0.0), a.0.1) = (both, and_from (not (code == 0)) (is_string a.0.0) (ap not other) t.1) in
-        subst (NextTakes error_field_bytes is_error_field IsEnd bytes) (ok_is (Some (error_field_of code a.0.0), a.0.1) x a.2) field
+          let goes : (string_at after >>= λ text. Ok (Some (error_field_of code text.0), text.1)) ≡ Ok x = rw other at e in
+          let a = bind_ok (string_at after) (λ text. Ok (Some (error_field_of code text.0), text.1)) x goes in
+          let t = string_takes after a.0.0 a.0.1 took.rest_fits a.1 in
+          let both = Takes-then bytes (code ∷ []) after (string a.0.0) a.0.1 took t.0 in
+          let field : NextTakes error_field_bytes is_error_field IsEnd bytes (Some (error_field_of code a.0.0), a.0.1) = (both, and_from (not (code == 0)) (is_string a.0.0) (ap not other) t.1) in
+          subst (NextTakes error_field_bytes is_error_field IsEnd bytes) (ok_is (Some (error_field_of code a.0.0), a.0.1) x a.2) field
     ]
 
 error_field_takes : (bytes : List ℕ) (x : Option ErrorField × List ℕ) → IsBytes bytes → next_error_field bytes ≡ Ok x → NextTakes error_field_bytes is_error_field IsEnd bytes x
@@ -450,7 +449,7 @@ body_takes kinds.AuthenticationOk body m rest fits e =
     let a = bind_ok (zero_at body) (λ r. read_back back.AuthenticationOk r) (m, rest) e in
     let t = zero_takes body a.0 fits a.1 in
     subst (λ (x : Back × List ℕ). BodyTaken kinds.AuthenticationOk body x.0 x.1) (ok_is (back.AuthenticationOk, a.0) (m, rest) a.2)
-      (record { good = refl; numbers = tt; front = to_be_bytes w32 0; laid_out = refl; taken = t.parts; byte = refl })
+    (record { good = refl; numbers = tt; front = to_be_bytes w32 0; laid_out = refl; taken = t.parts; byte = refl })
 body_takes kinds.BackendKeyData body m rest fits e =
     let a = bind_ok (number_at w32 body) (λ p. number_at w32 p.1 >>= λ k. read_back (back.BackendKeyData p.0 k.0) k.1) (m, rest) e in
     let b = bind_ok (number_at w32 a.0.1) (λ k. read_back (back.BackendKeyData a.0.0 k.0) k.1) (m, rest) a.2 in
@@ -458,7 +457,7 @@ body_takes kinds.BackendKeyData body m rest fits e =
     let tb = number_takes w32 (2 ^ 32) wide32 a.0.1 b.0.0 b.0.1 ta.0.rest_fits b.1 in
     let both = Takes-then body (to_be_bytes w32 a.0.0) a.0.1 (to_be_bytes w32 b.0.0) b.0.1 ta.0 tb.0 in
     subst (λ (x : Back × List ℕ). BodyTaken kinds.BackendKeyData body x.0 x.1) (ok_is (back.BackendKeyData a.0.0 b.0.0, b.0.1) (m, rest) b.2)
-      (record { good = refl; numbers = (ta.1, tb.1); front = to_be_bytes w32 a.0.0 ++ to_be_bytes w32 b.0.0; laid_out = refl; taken = both.parts; byte = refl })
+    (record { good = refl; numbers = (ta.1, tb.1); front = to_be_bytes w32 a.0.0 ++ to_be_bytes w32 b.0.0; laid_out = refl; taken = both.parts; byte = refl })
 body_takes kinds.ParameterStatus body m rest fits e =
     let a = bind_ok (string_at body) (λ n. string_at n.1 >>= λ v. read_back (back.ParameterStatus n.0 v.0) v.1) (m, rest) e in
     let b = bind_ok (string_at a.0.1) (λ v. read_back (back.ParameterStatus a.0.0 v.0) v.1) (m, rest) a.2 in
@@ -466,12 +465,12 @@ body_takes kinds.ParameterStatus body m rest fits e =
     let tb = string_takes a.0.1 b.0.0 b.0.1 ta.0.rest_fits b.1 in
     let both = Takes-then body (string a.0.0) a.0.1 (string b.0.0) b.0.1 ta.0 tb.0 in
     subst (λ (x : Back × List ℕ). BodyTaken kinds.ParameterStatus body x.0 x.1) (ok_is (back.ParameterStatus a.0.0 b.0.0, b.0.1) (m, rest) b.2)
-      (record { good = and_from (is_string a.0.0) (is_string b.0.0) ta.1 tb.1; numbers = tt; front = string a.0.0 ++ string b.0.0; laid_out = refl; taken = both.parts; byte = refl })
+    (record { good = and_from (is_string a.0.0) (is_string b.0.0) ta.1 tb.1; numbers = tt; front = string a.0.0 ++ string b.0.0; laid_out = refl; taken = both.parts; byte = refl })
 body_takes kinds.ReadyForQuery body m rest fits e =
     let a = bind_ok (status_at body) (λ s. read_back (back.ReadyForQuery s.0) s.1) (m, rest) e in
     let t = status_takes body a.0.0 a.0.1 fits a.1 in
     subst (λ (x : Back × List ℕ). BodyTaken kinds.ReadyForQuery body x.0 x.1) (ok_is (back.ReadyForQuery a.0.0, a.0.1) (m, rest) a.2)
-      (record { good = refl; numbers = tt; front = status_byte a.0.0 ∷ []; laid_out = refl; taken = t.parts; byte = refl })
+    (record { good = refl; numbers = tt; front = status_byte a.0.0 ∷ []; laid_out = refl; taken = t.parts; byte = refl })
 body_takes kinds.RowDescription body m rest fits e =
     let a = bind_ok (number_at w16 body) (λ c. times field_at c.0 c.1 >>= λ f. read_back (back.RowDescription f.0) f.1) (m, rest) e in
     let b = bind_ok (times field_at a.0.0 a.0.1) (λ f. read_back (back.RowDescription f.0) f.1) (m, rest) a.2 in
@@ -482,7 +481,7 @@ body_takes kinds.RowDescription body m rest fits e =
     let counted : to_be_bytes w16 a.0.0 ++ tb.0 ≡ to_be_bytes w16 (length b.0.0) ++ tb.0 = ap (λ (k : ℕ). to_be_bytes w16 k ++ tb.0) (sym tb.3) in
     let few : nat_le (length b.0.0) COUNT_LIMIT ≡ true = le-leb (length b.0.0) COUNT_LIMIT (omega (arith, tb.3, ta.1)) in
     subst (λ (x : Back × List ℕ). BodyTaken kinds.RowDescription body x.0 x.1) (ok_is (back.RowDescription b.0.0, b.0.1) (m, rest) b.2)
-      (record { good = and_from (nat_le (length b.0.0) COUNT_LIMIT) (list_all is_field b.0.0) few are.1; numbers = are.2; front = to_be_bytes w16 a.0.0 ++ tb.0; laid_out = (tb.0, are.0, counted); taken = both.parts; byte = refl })
+    (record { good = and_from (nat_le (length b.0.0) COUNT_LIMIT) (list_all is_field b.0.0) few are.1; numbers = are.2; front = to_be_bytes w16 a.0.0 ++ tb.0; laid_out = (tb.0, are.0, counted); taken = both.parts; byte = refl })
 body_takes kinds.DataRow body m rest fits e =
     let a = bind_ok (number_at w16 body) (λ c. times cell_at c.0 c.1 >>= λ f. read_back (back.DataRow f.0) f.1) (m, rest) e in
     let b = bind_ok (times cell_at a.0.0 a.0.1) (λ f. read_back (back.DataRow f.0) f.1) (m, rest) a.2 in
@@ -492,17 +491,17 @@ body_takes kinds.DataRow body m rest fits e =
     let counted : to_be_bytes w16 a.0.0 ++ tb.0 ≡ to_be_bytes w16 (length b.0.0) ++ flat_map cell_bytes b.0.0 = ap₂ (λ (k : ℕ) (t : List ℕ). to_be_bytes w16 k ++ t) (sym tb.3) (cells_are b.0.0 tb.0 tb.1) in
     let few : nat_le (length b.0.0) COUNT_LIMIT ≡ true = le-leb (length b.0.0) COUNT_LIMIT (omega (arith, tb.3, ta.1)) in
     subst (λ (x : Back × List ℕ). BodyTaken kinds.DataRow body x.0 x.1) (ok_is (back.DataRow b.0.0, b.0.1) (m, rest) b.2)
-      (record { good = few; numbers = tt; front = to_be_bytes w16 a.0.0 ++ tb.0; laid_out = counted; taken = both.parts; byte = refl })
+    (record { good = few; numbers = tt; front = to_be_bytes w16 a.0.0 ++ tb.0; laid_out = counted; taken = both.parts; byte = refl })
 body_takes kinds.CommandComplete body m rest fits e =
     let a = bind_ok (string_at body) (λ t. read_back (back.CommandComplete t.0) t.1) (m, rest) e in
     let t = string_takes body a.0.0 a.0.1 fits a.1 in
     subst (λ (x : Back × List ℕ). BodyTaken kinds.CommandComplete body x.0 x.1) (ok_is (back.CommandComplete a.0.0, a.0.1) (m, rest) a.2)
-      (record { good = t.1; numbers = tt; front = string a.0.0; laid_out = refl; taken = t.0.parts; byte = refl })
+    (record { good = t.1; numbers = tt; front = string a.0.0; laid_out = refl; taken = t.0.parts; byte = refl })
 body_takes kinds.ErrorResponse body m rest fits e =
     let a = bind_ok (until_end next_error_field (length body) body) (λ f. read_back (back.ErrorResponse f.0) f.1) (m, rest) e in
     let all = until_takes next_error_field error_field_bytes is_error_field IsEnd error_field_takes (length body) body a.0.0 a.0.1 fits a.1 in
     subst (λ (x : Back × List ℕ). BodyTaken kinds.ErrorResponse body x.0 x.1) (ok_is (back.ErrorResponse a.0.0, a.0.1) (m, rest) a.2)
-      (record { good = all.good_all; numbers = tt; front = flat_map error_field_bytes a.0.0 ++ 0 ∷ []; laid_out = refl; taken = all.taken.parts; byte = refl })
+    (record { good = all.good_all; numbers = tt; front = flat_map error_field_bytes a.0.0 ++ 0 ∷ []; laid_out = refl; taken = all.taken.parts; byte = refl })
 
 -- ---- whole messages
 
@@ -523,15 +522,17 @@ back_takes (byte ∷ rest) m n fits e =
     let read : (back_fields h.at h.body >>= ended) ≡ Ok m = h.read in
     let t = body_takes h.at h.body m [] h.body_fits (ended_ok (back_fields h.at h.body) m read) in
     let kind = kind_takes byte h.at h.is ∙ t.byte in
-    let same : h.body ≡ t.front = t.taken ∙ append-nil t.front in
-    (h.within, record {
-      spelled = t.good;
-      numbers = t.numbers;
-      body = t.front;
-      laid_out = t.laid_out;
-      within = subst (λ (x : List ℕ). length x + 4 ≤ BACK_LIMIT) same h.small;
-      bytes = h.spelled ∙ ap₂ message kind same;
-    })
+    let same : h.body ≡ t.front = t.taken ∙ append-nil t.front in (
+      h.within,
+      record {
+        spelled = t.good;
+        numbers = t.numbers;
+        body = t.front;
+        laid_out = t.laid_out;
+        within = subst (λ (x : List ℕ). length x + 4 ≤ BACK_LIMIT) same h.small;
+        bytes = h.spelled ∙ ap₂ message kind same;
+      },
+    )
 
 -- ---- what lies behind changes nothing
 
@@ -574,9 +575,9 @@ back_front bytes more m fits missing is =
     elim (cases_Bool (is_more (back_of bytes))) [
       | inl more_told ↦ more_is (back_of bytes) more_told
       | inr told ↦
-        let whole = behind bytes more m (bytes ++ more) [] is (sym (append-nil (bytes ++ more))) told in
-        let within = (back_takes bytes m (length (bytes ++ more)) fits whole).0 in
-        absurd (omega (arith, within, length-append bytes more))
+          let whole = behind bytes more m (bytes ++ more) [] is (sym (append-nil (bytes ++ more))) told in
+          let within = (back_takes bytes m (length (bytes ++ more)) fits whole).0 in
+          absurd (omega (arith, within, length-append bytes more))
     ]
 
 -- no packet begins with bad bytes, or is a front of them

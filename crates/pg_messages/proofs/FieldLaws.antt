@@ -1,10 +1,10 @@
 -- A field that is read is the field that was written, and what was written is read again, whatever follows it.
-use Rattle.std.proofs.Common.{◌≡◌, ℕ, zero, suc, ◌+◌, ◌-◌, ◌*◌, ◌^◌, ◌<◌, ◌≤◌, Bool, true, false, not, cond, ltb, eqb, List, [], ◌∷◌, ◌++◌, length, get_or, take, drop, Option, Some, None, Result, Ok, Err, refl, sym, ap, ap₂, subst, ◌∙◌, append_assoc, arith, inl, inr}
+use Rattle.std.proofs.Common.{◌≡◌, ℕ, zero, suc, ◌+◌, ◌^◌, ◌<◌, ◌≤◌, Bool, true, false, not, cond, ltb, eqb, List, [], ◌∷◌, ◌++◌, length, take, drop, None, Result, Ok, Err, refl, sym, ap, ap₂, subst, ◌∙◌, append_assoc, arith, inl, inr}
 use Rattle.std.specs.Prelude.{◌⊎◌, ◌==◌}
 use Rattle.std.specs.Int.{Width, w16, w32, byte_len, from_be_bytes, to_be_bytes}
-use Rattle.std.specs.List.{position, position_or_len, list_all}
-use Rattle.std.proofs.lemmas.Bool.{and_parts, and_from, ne_eqb, cases_lt, eqb-true, ltb-true, ltb-false, le-ltb, lt-ltb}
-use Rattle.std.proofs.lemmas.List.{take_at, drop_at, take-append-drop, length-append, length-take, get_or-drop, get_or-take, get_or_past, append-nil, nil_from_length}
+use Rattle.std.specs.List.{position_or_len}
+use Rattle.std.proofs.lemmas.Bool.{and_parts, and_from, ne_eqb, cases_lt, eqb-true, ltb-false, le-ltb, lt-ltb}
+use Rattle.std.proofs.lemmas.List.{take_at, drop_at, take-append-drop, length-append, length-take, get_or-drop, get_or-take, get_or_past, nil_from_length}
 use Rattle.std.proofs.lemmas.Nat.{be_bytes_2, be_bytes_4, from_be_bytes-to_be_bytes_2, from_be_bytes-to_be_bytes_4}
 use Rattle.pg_messages.specs.Fields.{◌>>=◌, is_zero, number_at, byte_at, cut_at, string_at}
 use Rattle.pg_messages.specs.Packet.{ended}
@@ -138,16 +138,16 @@ unfolding string_at
 string_takes bytes s rest fits e =
     elim (cases_lt (position_or_len is_zero bytes) (length bytes)) [
       | inl lt ↦
-        let k = position_or_len is_zero bytes in
-        let within : ltb (position_or_len is_zero bytes) (length bytes) ≡ true = lt-ltb _ _ lt in
-        let found : done (take k bytes, drop 1 (drop k bytes)) ≡ Ok (s, rest) = rw within at e in
-        let cut = is_cut bytes lt in
-        let whole : Takes bytes (string (take k bytes)) (drop 1 (drop k bytes)) = record { parts = cut.parts ∙ sym (append_assoc (take k bytes) (0 ∷ []) (drop 1 (drop k bytes))); rest_fits = IsBytes-drop 1 (drop k bytes) (IsBytes-drop k bytes fits) } in
-        subst (λ (x : List ℕ × List ℕ). Takes bytes (string x.0) x.1 × (is_string x.0 ≡ true)) (ok_is (take k bytes, drop 1 (drop k bytes)) (s, rest) found) (whole, cut.no_zero)
+          let k = position_or_len is_zero bytes in
+          let within : ltb (position_or_len is_zero bytes) (length bytes) ≡ true = lt-ltb _ _ lt in
+          let found : done (take k bytes, drop 1 (drop k bytes)) ≡ Ok (s, rest) = rw within at e in
+          let cut = is_cut bytes lt in
+          let whole : Takes bytes (string (take k bytes)) (drop 1 (drop k bytes)) = record { parts = cut.parts ∙ sym (append_assoc (take k bytes) (0 ∷ []) (drop 1 (drop k bytes))); rest_fits = IsBytes-drop 1 (drop k bytes) (IsBytes-drop k bytes fits) } in
+          subst (λ (x : List ℕ × List ℕ). Takes bytes (string x.0) x.1 × (is_string x.0 ≡ true)) (ok_is (take k bytes, drop 1 (drop k bytes)) (s, rest) found) (whole, cut.no_zero)
       | inr le ↦
-        let without : ltb (position_or_len is_zero bytes) (length bytes) ≡ false = le-ltb _ _ le in
-        let none : cut_at bytes None ≡ Ok (s, rest) = rw without at e in
-        absurd cc
+          let without : ltb (position_or_len is_zero bytes) (length bytes) ≡ false = le-ltb _ _ le in
+          let none : cut_at bytes None ≡ Ok (s, rest) = rw without at e in
+          absurd cc
     ]
 
 -- ---- the end of a body

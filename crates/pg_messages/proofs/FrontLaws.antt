@@ -1,6 +1,5 @@
 -- The frontend messages: what is spelled is read, and what is read is spelled so.
-use Rattle.std.proofs.Common.{◌≡◌, ℕ, zero, suc, ◌+◌, ◌^◌, ◌<◌, ◌≤◌, Bool, true, false, cond, ltb, eqb, List, [], ◌∷◌, ◌++◌, length, take, drop, Option, Some, None, Result, Ok, Err, refl, sym, ap, ap₂, subst, ◌∙◌, append_assoc, arith, inl, inr, lit<}
-use Rattle.std.specs.Prelude.{◌⊎◌}
+use Rattle.std.proofs.Common.{◌≡◌, ℕ, suc, ◌+◌, ◌<◌, ◌≤◌, true, false, eqb, List, [], ◌∷◌, ◌++◌, length, take, Option, Some, None, Ok, refl, sym, ap, ap₂, subst, ◌∙◌, arith, inl, inr, lit<}
 use Rattle.std.proofs.lemmas.Bool.{cases_Bool, eqb-true}
 use Rattle.std.proofs.lemmas.List.{append-nil, length-append}
 use Rattle.pg_messages.specs.declared.decoded.Decoded.{Decoded}
@@ -12,12 +11,11 @@ use Rattle.pg_messages.specs.declared.front.FrontKind.{FrontKind}
 use Rattle.pg_messages.specs.declared.front.FrontKind.TheVariants as kinds
 use Rattle.pg_messages.specs.declared.front.TheConstants.{FRONT_LIMIT}
 use Rattle.pg_messages.specs.declared.packet.Head.{Head}
-use Rattle.pg_messages.specs.declared.packet.Head.TheVariants as head
-use Rattle.pg_messages.specs.Fields.{◌>>=◌, string_at}
-use Rattle.pg_messages.specs.Packet.{message_head, ended, packet_of, is_more, is_more_head}
+use Rattle.pg_messages.specs.Fields.{string_at}
+use Rattle.pg_messages.specs.Packet.{message_head, packet_of, is_more, is_more_head}
 use Rattle.pg_messages.specs.FrontReading.{front_kind, front_head, front_fields, front_body, front_of}
 use Rattle.pg_messages.specs.FrontSpelling.{front_byte, front_layout, front_bytes, is_spelled_front, front_refusal, IsFront}
-use Rattle.pg_messages.specs.Spelling.{IsBytes, is_string, string, message}
+use Rattle.pg_messages.specs.Spelling.{IsBytes, message}
 use Rattle.pg_messages.proofs.FieldLaws.{bind_ok, ok_is, ended_ok, ended_again, string_again, string_takes}
 use Rattle.pg_messages.proofs.MessageLaws.{message_again, message_takes, head_kept, head_within, packet_kept}
 use Rattle.pg_messages.proofs.Lengths.{refusal_none}
@@ -96,12 +94,14 @@ front_takes [] m n fits e = absurd cc
 front_takes (byte ∷ rest) m n fits e =
     let h = message_takes front_body FRONT_LIMIT byte (front_kind byte) rest m n (λ i. fits (suc i)) e in
     let t = body_takes h.at h.body m h.body_fits h.read in
-    let kind = kind_takes byte h.at h.is ∙ t.2 in
-    (h.within, record {
-      spelled = t.1;
-      within = subst (λ (x : List ℕ). length x + 4 ≤ FRONT_LIMIT) t.0 h.small;
-      bytes = h.spelled ∙ ap₂ message kind t.0;
-    })
+    let kind = kind_takes byte h.at h.is ∙ t.2 in (
+      h.within,
+      record {
+        spelled = t.1;
+        within = subst (λ (x : List ℕ). length x + 4 ≤ FRONT_LIMIT) t.0 h.small;
+        bytes = h.spelled ∙ ap₂ message kind t.0;
+      },
+    )
 
 -- ---- what lies behind changes nothing
 
@@ -144,9 +144,9 @@ front_front bytes more m fits missing is =
     elim (cases_Bool (is_more (front_of bytes))) [
       | inl more_told ↦ more_is (front_of bytes) more_told
       | inr told ↦
-        let whole = behind bytes more m (bytes ++ more) [] is (sym (append-nil (bytes ++ more))) told in
-        let within = (front_takes bytes m (length (bytes ++ more)) fits whole).0 in
-        absurd (omega (arith, within, length-append bytes more))
+          let whole = behind bytes more m (bytes ++ more) [] is (sym (append-nil (bytes ++ more))) told in
+          let within = (front_takes bytes m (length (bytes ++ more)) fits whole).0 in
+          absurd (omega (arith, within, length-append bytes more))
     ]
 
 -- no packet begins with bad bytes, or is a front of them

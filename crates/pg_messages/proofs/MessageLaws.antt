@@ -1,18 +1,16 @@
 -- A message behind its type byte: the head that was written is read, and the head that is read was written so.
-use Rattle.std.proofs.Common.{◌≡◌, ℕ, zero, suc, ◌+◌, ◌-◌, ◌^◌, ◌<◌, ◌≤◌, Bool, true, false, cond, ltb, List, [], ◌∷◌, ◌++◌, length, take, drop, Option, Some, None, Result, Ok, Err, refl, sym, ap, ap₂, subst, ◌∙◌, append_assoc, arith, inl, inr}
-use Rattle.std.specs.Prelude.{◌⊎◌, ◌||◌}
+use Rattle.std.proofs.Common.{◌≡◌, ℕ, suc, ◌+◌, ◌^◌, ◌<◌, ◌≤◌, Bool, true, false, ltb, List, ◌∷◌, ◌++◌, length, take, drop, Option, Some, None, Result, Ok, Err, refl, sym, ap, ap₂, ◌∙◌, append_assoc, arith, inl, inr}
+use Rattle.std.specs.Prelude.{◌||◌}
 use Rattle.std.specs.Int.{w32, from_be_bytes, to_be_bytes}
-use Rattle.std.proofs.lemmas.Bool.{ltb-true, ltb-false, le-ltb, lt-ltb, cases_Bool}
+use Rattle.std.proofs.lemmas.Bool.{ltb-false, le-ltb, cases_Bool}
 use Rattle.std.proofs.lemmas.List.{take_at, drop_at, take-append-drop, take-append-le, take-take, length-append, length-take, length-drop}
-use Rattle.pg_messages.specs.declared.decoded.Decoded.{Decoded}
 use Rattle.pg_messages.specs.declared.decoded.Decoded.TheVariants as decoded
 use Rattle.pg_messages.specs.declared.decoded.Why.TheVariants as why
 use Rattle.pg_messages.specs.declared.packet.Head.{Head}
 use Rattle.pg_messages.specs.declared.packet.Head.TheVariants as head
-use Rattle.pg_messages.specs.Packet.{message_head, sized_head, decoded_as, packet_of, is_more, is_more_head}
+use Rattle.pg_messages.specs.Packet.{message_head, sized_head, decoded_as, packet_of, is_more_head}
 use Rattle.pg_messages.specs.Spelling.{IsBytes, message}
 use Rattle.pg_messages.proofs.FieldLaws.{wide32, IsBytes-take, IsBytes-drop}
-use Rattle.pg_messages.proofs.Packets.{is_more_packet}
 
 or_false : (a b : Bool) → (a || b) ≡ false → (a ≡ false) × (b ≡ false)
 or_false true b h = absurd cc
@@ -89,8 +87,8 @@ sized_takes {K = K} most kind at rest size n e =
         | inr high ↦ elim (cases_Bool (ltb (length rest) size)) [
           | inl short ↦ (let no : more_of kind ≡ head.Packet at n = rw (low, high, short) at e in absurd cc)
           | inr short ↦
-            let same = kind_is kind at (size + 1) n (rw (low, high, short) at e) in
-            (same.0, sym same.1, ltb-false _ _ low, ltb-false _ _ high, ltb-false _ _ short)
+              let same = kind_is kind at (size + 1) n (rw (low, high, short) at e) in
+              (same.0, sym same.1, ltb-false _ _ low, ltb-false _ _ high, ltb-false _ _ short)
         ]
       ]
     ]
@@ -106,10 +104,10 @@ head_takes {K = K} most (Some kind) at rest n e =
     elim (cases_Bool (ltb (length rest) 4)) [
       | inl short ↦ (let no : more_of kind ≡ head.Packet at n = rw short at e in absurd cc)
       | inr long ↦
-        let sized : sized_head most kind rest (from_be_bytes w32 (take 4 rest)) ≡ head.Packet at n = rw long at e in
-        let is = sized_takes most kind at rest (from_be_bytes w32 (take 4 rest)) n sized in
-        let some : K → Option K = λ k. Some k in
-        (ap some is.0, record { size = from_be_bytes w32 (take 4 rest); n_is = is.1; low = is.2; high = is.3; there = is.4; size_is = refl })
+          let sized : sized_head most kind rest (from_be_bytes w32 (take 4 rest)) ≡ head.Packet at n = rw long at e in
+          let is = sized_takes most kind at rest (from_be_bytes w32 (take 4 rest)) n sized in
+          let some : K → Option K = λ k. Some k in
+          (ap some is.0, record { size = from_be_bytes w32 (take 4 rest); n_is = is.1; low = is.2; high = is.3; there = is.4; size_is = refl })
     ]
 
 pub packet_takes : {K T : Type 0} (body_of : K → List ℕ → Result T ℕ) (skipped : ℕ) (x : Head K) (bytes : List ℕ) (m : T) (n : ℕ) → packet_of body_of skipped x bytes ≡ decoded.Whole m n → (at : K) × (x ≡ head.Packet at n) × (body_of at (drop skipped (take n bytes)) ≡ Ok m)
@@ -160,9 +158,9 @@ sized_kept most kind rest more size h =
         | inr high ↦ elim (cases_Bool (ltb (length rest) size)) [
           | inl short ↦ (let no : true ≡ false = rw (low, high, short) at h in absurd cc)
           | inr short ↦
-            let there = ltb-false (length rest) size short in
-            let still : ltb (length (rest ++ more)) size ≡ false = le-ltb _ _ (omega (arith, there, length-append rest more)) in
-            rw (low, high, short, still) refl
+              let there = ltb-false (length rest) size short in
+              let still : ltb (length (rest ++ more)) size ≡ false = le-ltb _ _ (omega (arith, there, length-append rest more)) in
+              rw (low, high, short, still) refl
         ]
       ]
     ]
@@ -174,11 +172,11 @@ head_kept most (Some kind) rest more h =
     elim (cases_Bool (ltb (length rest) 4)) [
       | inl short ↦ (let no : true ≡ false = rw short at h in absurd cc)
       | inr long ↦
-        let there : 4 ≤ length rest = ltb-false (length rest) 4 long in
-        let still : ltb (length (rest ++ more)) 4 ≡ false = le-ltb _ _ (omega (arith, there, length-append rest more)) in
-        let sized : is_more_head (sized_head most kind rest (from_be_bytes w32 (take 4 rest))) ≡ false = rw long at h in
-        let front = take-append-le 4 rest more there in
-        rw (still, long, front) (sized_kept most kind rest more (from_be_bytes w32 (take 4 rest)) sized)
+          let there : 4 ≤ length rest = ltb-false (length rest) 4 long in
+          let still : ltb (length (rest ++ more)) 4 ≡ false = le-ltb _ _ (omega (arith, there, length-append rest more)) in
+          let sized : is_more_head (sized_head most kind rest (from_be_bytes w32 (take 4 rest))) ≡ false = rw long at h in
+          let front = take-append-le 4 rest more there in
+          rw (still, long, front) (sized_kept most kind rest more (from_be_bytes w32 (take 4 rest)) sized)
     ]
 
 -- a packet that is there has its bytes within those at hand

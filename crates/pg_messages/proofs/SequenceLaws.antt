@@ -1,8 +1,7 @@
 -- Values one behind the other: what is spelled is read, and what is read is spelled so.
-use Rattle.std.proofs.Common.{◌≡◌, ℕ, zero, suc, ◌+◌, ◌-◌, ◌^◌, ◌<◌, ◌≤◌, Bool, true, false, List, [], ◌∷◌, ◌++◌, length, Option, Some, None, Result, Ok, Err, refl, sym, ap, ap₂, subst, ◌∙◌, append_assoc, arith}
+use Rattle.std.proofs.Common.{◌≡◌, ℕ, zero, suc, ◌<◌, Bool, true, List, [], ◌∷◌, ◌++◌, length, Option, Some, None, Result, Ok, refl, sym, ap, subst, ◌∙◌, append_assoc, arith}
 use Rattle.std.specs.List.{flat_map, list_all}
 use Rattle.std.proofs.lemmas.Bool.{and_parts, and_from}
-use Rattle.std.proofs.lemmas.List.{append-nil}
 use Rattle.pg_messages.specs.Fields.{◌>>=◌, times, until_end, continued}
 use Rattle.pg_messages.specs.Spelling.{IsBytes, AreSpelled}
 use Rattle.pg_messages.proofs.FieldLaws.{bind_ok, ok_is, Takes, Takes-then}
@@ -67,7 +66,7 @@ times_take {X = X} read S takes (suc n) bytes xs rest fits e =
     let first = takes bytes a.0.0 a.0.1 fits a.1 in
     let others = times_take read S takes n a.0.1 b.0.0 b.0.1 first.2.rest_fits b.1 in
     let both = Takes-then bytes first.0 a.0.1 others.0 b.0.1 first.2 others.2 in
-    subst (λ (y : List X × List ℕ). (text : List ℕ) × AreSpelled S y.0 text × Takes bytes text y.1 × (length y.0 ≡ suc n)) (ok_is (a.0.0 ∷ b.0.0, b.0.1) (xs, rest) b.2) (first.0 ++ others.0, (first.0, others.0, refl, first.1, others.1), both, ap suc others.3)
+    subst (λ (y : List X × List ℕ). (text : List ℕ) × AreSpelled S y.0 text × Takes bytes text y.1 × (length y.0 ≡ suc n)) (ok_is (a.0.0 ∷ b.0.0, b.0.1) (xs, rest) b.2) (first.0 ++ others.0, (first.0, others.0, refl {a = first.0 ++ others.0}, first.1, others.1), both, ap suc others.3)
 
 pub times_again : {X : Type 0} (read : List ℕ → Result (X × List ℕ) ℕ) (S : X → List ℕ → Type 0)
     → ((x : X) (text rest : List ℕ) → S x text → read (text ++ rest) ≡ Ok (x, rest))

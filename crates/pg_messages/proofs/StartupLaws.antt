@@ -1,9 +1,9 @@
 -- The start-up packets: what is spelled is read, and what is read is spelled so.
-use Rattle.std.proofs.Common.{◌≡◌, ℕ, zero, suc, ◌+◌, ◌-◌, ◌^◌, ◌<◌, ◌≤◌, Bool, true, false, not, cond, ltb, leb, eqb, List, [], ◌∷◌, ◌++◌, length, take, drop, Option, Some, None, Result, Ok, Err, refl, sym, ap, ap₂, subst, ◌∙◌, append_assoc, arith, inl, inr, lit<}
+use Rattle.std.proofs.Common.{◌≡◌, ℕ, ◌+◌, ◌^◌, ◌<◌, ◌≤◌, true, false, not, ltb, List, [], ◌∷◌, ◌++◌, length, take, drop, Option, Some, None, Ok, refl, sym, ap, ap₂, subst, ◌∙◌, append_assoc, arith, inl, inr}
 use Rattle.std.specs.Prelude.{◌⊎◌, ◌&&◌, ◌==◌}
 use Rattle.std.specs.Int.{w32, from_be_bytes, to_be_bytes}
-use Rattle.std.specs.List.{flat_map, list_all}
-use Rattle.std.proofs.lemmas.Bool.{cases_Bool, eqb-true, ne_eqb, ltb-false, le-ltb, le-leb, leb-true, and_parts, and_from, not-true}
+use Rattle.std.specs.List.{flat_map}
+use Rattle.std.proofs.lemmas.Bool.{cases_Bool, eqb-true, ltb-false, le-ltb, le-leb, and_parts, and_from, not-true}
 use Rattle.std.proofs.lemmas.List.{append-nil, take_at, drop_at, take-append-drop, take-append-le, drop-append-le, take-take, drop-take, length-append, length-take, length-drop, nil_from_length}
 use Rattle.pg_messages.specs.declared.decoded.Decoded.{Decoded}
 use Rattle.pg_messages.specs.declared.decoded.Decoded.TheVariants as decoded
@@ -26,7 +26,7 @@ use Rattle.pg_messages.proofs.FieldLaws.{bind_ok, ok_is, Takes, Takes-then, stri
 use Rattle.pg_messages.proofs.MessageLaws.{packet_takes, packet_kept}
 use Rattle.pg_messages.proofs.Lengths.{refusal_none}
 use Rattle.pg_messages.proofs.Packets.{is_more_packet}
-use Rattle.pg_messages.proofs.SequenceLaws.{NextTakes, AllTaken, until_takes, until_again}
+use Rattle.pg_messages.proofs.SequenceLaws.{NextTakes, until_takes, until_again}
 
 -- ---- pairs
 
@@ -53,20 +53,20 @@ named_takes : (bytes name rest : List ℕ) (x : Option Pair × List ℕ) → Tak
 named_takes bytes name rest x took text e =
     elim (cases_Bool (length name == 0)) [
       | inl empty ↦
-        let none : Option Pair × List ℕ = (None, rest) in
-        let last = guarded_ok (length rest == 0) (length bytes) none x (rw empty at e) in
-        let no_name : name ≡ [] = nil_from_length name (eqb-true (length name) 0 empty) in
-        let no_rest : rest ≡ [] = nil_from_length rest (eqb-true (length rest) 0 last.0) in
-        let ends : NextTakes pair_bytes is_pair IsEnd bytes none = (subst (λ (t : List ℕ). Takes bytes (string t) rest) no_name took, no_rest) in
-        subst (NextTakes pair_bytes is_pair IsEnd bytes) last.1 ends
+          let none : Option Pair × List ℕ = (None, rest) in
+          let last = guarded_ok (length rest == 0) (length bytes) none x (rw empty at e) in
+          let no_name : name ≡ [] = nil_from_length name (eqb-true (length name) 0 empty) in
+          let no_rest : rest ≡ [] = nil_from_length rest (eqb-true (length rest) 0 last.0) in
+          let ends : NextTakes pair_bytes is_pair IsEnd bytes none = (subst (λ (t : List ℕ). Takes bytes (string t) rest) no_name took, no_rest) in
+          subst (NextTakes pair_bytes is_pair IsEnd bytes) last.1 ends
       | inr full ↦
-        let goes : (string_at rest >>= λ value. Ok (Some (pair_of name value.0), value.1)) ≡ Ok x = rw full at e in
-        let a = bind_ok (string_at rest) (λ value. Ok (Some (pair_of name value.0), value.1)) x goes in
-        let v = string_takes rest a.0.0 a.0.1 took.rest_fits a.1 in
-        let both = Takes-then bytes (string name) rest (string a.0.0) a.0.1 took v.0 in
-        let named : (not (length name == 0) && is_string name) ≡ true = and_from (not (length name == 0)) (is_string name) (ap not full) text in
-        let pair : NextTakes pair_bytes is_pair IsEnd bytes (Some (pair_of name a.0.0), a.0.1) = (both, and_from (not (length name == 0) && is_string name) (is_string a.0.0) named v.1) in
-        subst (NextTakes pair_bytes is_pair IsEnd bytes) (ok_is (Some (pair_of name a.0.0), a.0.1) x a.2) pair
+          let goes : (string_at rest >>= λ value. Ok (Some (pair_of name value.0), value.1)) ≡ Ok x = rw full at e in
+          let a = bind_ok (string_at rest) (λ value. Ok (Some (pair_of name value.0), value.1)) x goes in
+          let v = string_takes rest a.0.0 a.0.1 took.rest_fits a.1 in
+          let both = Takes-then bytes (string name) rest (string a.0.0) a.0.1 took v.0 in
+          let named : (not (length name == 0) && is_string name) ≡ true = and_from (not (length name == 0)) (is_string name) (ap not full) text in
+          let pair : NextTakes pair_bytes is_pair IsEnd bytes (Some (pair_of name a.0.0), a.0.1) = (both, and_from (not (length name == 0) && is_string name) (is_string a.0.0) named v.1) in
+          subst (NextTakes pair_bytes is_pair IsEnd bytes) (ok_is (Some (pair_of name a.0.0), a.0.1) x a.2) pair
     ]
 
 pair_takes : (bytes : List ℕ) (x : Option Pair × List ℕ) → IsBytes bytes → next_pair bytes ≡ Ok x → NextTakes pair_bytes is_pair IsEnd bytes x
@@ -124,8 +124,8 @@ rest_takes (kinds.Other other) code rest m fits announced e =
     elim (kind_is code (kinds.Other other) announced) [
       | inl k ↦ absurd (cc k.1)
       | inr k ↦
-        let same : other ≡ code = other_is other code k.1 in
-        subst (λ (y : Startup). IsRest y rest × (startup_code y ≡ code) × (is_spelled_startup y ≡ true)) (ok_is (startup.Other other) m e) (tt, same, ap not (ap (λ (j : ℕ). j == STARTUP_CODE) same ∙ k.0))
+          let same : other ≡ code = other_is other code k.1 in
+          subst (λ (y : Startup). IsRest y rest × (startup_code y ≡ code) × (is_spelled_startup y ≡ true)) (ok_is (startup.Other other) m e) (tt, same, ap not (ap (λ (j : ℕ). j == STARTUP_CODE) same ∙ k.0))
     ]
 
 -- ---- the head
@@ -193,8 +193,8 @@ coded_takes at kind size n bytes e =
       | inl fits ↦ elim (cases_Bool (ltb (length bytes) size)) [
         | inl short ↦ (let no : more_head ≡ packet kind n = rw (fits, short) at e in absurd cc)
         | inr long ↦
-          let same = packet_is at kind size n (rw (fits, long) at e) in
-          (same.0, same.1, ltb-false (length bytes) size long)
+            let same = packet_is at kind size n (rw (fits, long) at e) in
+            (same.0, same.1, ltb-false (length bytes) size long)
       ]
       | inr other ↦ (let no : bad ≡ packet kind n = rw other at e in absurd cc)
     ]
@@ -218,10 +218,10 @@ head_takes bytes kind n e =
     elim (cases_Bool (ltb (length bytes) 4)) [
       | inl short ↦ (let no : more_head ≡ packet kind n = rw short at e in absurd cc)
       | inr long ↦
-        let size = from_be_bytes w32 (take 4 bytes) in
-        let sized = sized_takes (from_be_bytes w32 (take 4 bytes)) (drop 4 bytes) bytes kind n (rw long at e) in
-        let coded = coded_takes (startup_kind (from_be_bytes w32 (take 4 (drop 4 bytes)))) kind (from_be_bytes w32 (take 4 bytes)) n bytes sized.2 in
-        record { low = omega (arith, sized.0, coded.1); high = omega (arith, sized.1, coded.1); there = omega (arith, coded.2, coded.1); n_is = sym coded.1; kind_is = coded.0 }
+          let size = from_be_bytes w32 (take 4 bytes) in
+          let sized = sized_takes (from_be_bytes w32 (take 4 bytes)) (drop 4 bytes) bytes kind n (rw long at e) in
+          let coded = coded_takes (startup_kind (from_be_bytes w32 (take 4 (drop 4 bytes)))) kind (from_be_bytes w32 (take 4 bytes)) n bytes sized.2 in
+          record { low = omega (arith, sized.0, coded.1); high = omega (arith, sized.1, coded.1); there = omega (arith, coded.2, coded.1); n_is = sym coded.1; kind_is = coded.0 }
     ]
 
 eight : (bytes : List ℕ) → take 8 bytes ≡ take 4 bytes ++ take 4 (drop 4 bytes)
@@ -245,15 +245,17 @@ startup_takes bytes m n fits e =
     let told = head_takes bytes found.0 n found.1 in
     let code = from_be_bytes w32 (take 4 (drop 4 bytes)) in
     let t = rest_takes found.0 (from_be_bytes w32 (take 4 (drop 4 bytes))) (drop 8 (take n bytes)) m (IsBytes-drop 8 (take n bytes) (IsBytes-take n bytes fits)) told.kind_is found.2 in
-    let below : from_be_bytes w32 (take 4 (drop 4 bytes)) < 2 ^ 32 = wide32.below (take 4 (drop 4 bytes)) (IsBytes-take 4 (drop 4 bytes) (IsBytes-drop 4 bytes fits)) in
-    (told.there, record {
-      spelled = t.2;
-      code = omega (arith, below, t.1);
-      rest = drop 8 (take n bytes);
-      laid_out = t.0;
-      within = omega (arith, told.high, told.low, told.there, length-drop 8 (take n bytes), length-take n bytes);
-      bytes = parted n bytes fits told.low told.there told.n_is ∙ ap (λ (k : ℕ). startup_packet k (drop 8 (take n bytes))) (sym t.1);
-    })
+    let below : from_be_bytes w32 (take 4 (drop 4 bytes)) < 2 ^ 32 = wide32.below (take 4 (drop 4 bytes)) (IsBytes-take 4 (drop 4 bytes) (IsBytes-drop 4 bytes fits)) in (
+      told.there,
+      record {
+        spelled = t.2;
+        code = omega (arith, below, t.1);
+        rest = drop 8 (take n bytes);
+        laid_out = t.0;
+        within = omega (arith, told.high, told.low, told.there, length-drop 8 (take n bytes), length-take n bytes);
+        bytes = parted n bytes fits told.low told.there told.n_is ∙ ap (λ (k : ℕ). startup_packet k (drop 8 (take n bytes))) (sym t.1);
+      },
+    )
 
 -- ---- what lies behind changes nothing
 
@@ -263,8 +265,8 @@ coded_kept at size bytes more h =
       | inl fits ↦ elim (cases_Bool (ltb (length bytes) size)) [
         | inl short ↦ (let no : true ≡ false = rw (fits, short) at h in absurd cc)
         | inr long ↦
-          let still : ltb (length (bytes ++ more)) size ≡ false = le-ltb _ _ (omega (arith, ltb-false (length bytes) size long, length-append bytes more)) in
-          rw (fits, long, still) refl
+            let still : ltb (length (bytes ++ more)) size ≡ false = le-ltb _ _ (omega (arith, ltb-false (length bytes) size long, length-append bytes more)) in
+            rw (fits, long, still) refl
       ]
       | inr other ↦ rw other refl
     ]
@@ -278,10 +280,10 @@ sized_kept size rest bytes more h =
         | inr high ↦ elim (cases_Bool (ltb (length rest) 4)) [
           | inl short ↦ (let no : true ≡ false = rw (low, high, short) at h in absurd cc)
           | inr long ↦
-            let there : 4 ≤ length rest = ltb-false (length rest) 4 long in
-            let still : ltb (length (rest ++ more)) 4 ≡ false = le-ltb _ _ (omega (arith, there, length-append rest more)) in
-            let coded : is_more_head (coded_head (startup_kind (from_be_bytes w32 (take 4 rest))) size bytes) ≡ false = rw (low, high, long) at h in
-            rw (low, high, long, still, take-append-le 4 rest more there) (coded_kept (startup_kind (from_be_bytes w32 (take 4 rest))) size bytes more coded)
+              let there : 4 ≤ length rest = ltb-false (length rest) 4 long in
+              let still : ltb (length (rest ++ more)) 4 ≡ false = le-ltb _ _ (omega (arith, there, length-append rest more)) in
+              let coded : is_more_head (coded_head (startup_kind (from_be_bytes w32 (take 4 rest))) size bytes) ≡ false = rw (low, high, long) at h in
+              rw (low, high, long, still, take-append-le 4 rest more there) (coded_kept (startup_kind (from_be_bytes w32 (take 4 rest))) size bytes more coded)
         ]
       ]
     ]
@@ -292,10 +294,10 @@ head_kept bytes more h =
     elim (cases_Bool (ltb (length bytes) 4)) [
       | inl short ↦ (let no : true ≡ false = rw short at h in absurd cc)
       | inr long ↦
-        let there : 4 ≤ length bytes = ltb-false (length bytes) 4 long in
-        let still : ltb (length (bytes ++ more)) 4 ≡ false = le-ltb _ _ (omega (arith, there, length-append bytes more)) in
-        let sized : is_more_head (sized_head (from_be_bytes w32 (take 4 bytes)) (drop 4 bytes) bytes) ≡ false = rw long at h in
-        rw (still, long, take-append-le 4 bytes more there, drop-append-le 4 bytes more there) (sized_kept (from_be_bytes w32 (take 4 bytes)) (drop 4 bytes) bytes more sized)
+          let there : 4 ≤ length bytes = ltb-false (length bytes) 4 long in
+          let still : ltb (length (bytes ++ more)) 4 ≡ false = le-ltb _ _ (omega (arith, there, length-append bytes more)) in
+          let sized : is_more_head (sized_head (from_be_bytes w32 (take 4 bytes)) (drop 4 bytes) bytes) ≡ false = rw long at h in
+          rw (still, long, take-append-le 4 bytes more there, drop-append-le 4 bytes more there) (sized_kept (from_be_bytes w32 (take 4 bytes)) (drop 4 bytes) bytes more sized)
     ]
 
 pub startup_kept : (bytes more : List ℕ) → is_more (startup_of bytes) ≡ false → startup_of (bytes ++ more) ≡ startup_of bytes
@@ -335,9 +337,9 @@ startup_front bytes more m fits missing is =
     elim (cases_Bool (is_more (startup_of bytes))) [
       | inl more_told ↦ more_is (startup_of bytes) more_told
       | inr told ↦
-        let whole = behind bytes more m (bytes ++ more) [] is (sym (append-nil (bytes ++ more))) told in
-        let within = (startup_takes bytes m (length (bytes ++ more)) fits whole).0 in
-        absurd (omega (arith, within, length-append bytes more))
+          let whole = behind bytes more m (bytes ++ more) [] is (sym (append-nil (bytes ++ more))) told in
+          let within = (startup_takes bytes m (length (bytes ++ more)) fits whole).0 in
+          absurd (omega (arith, within, length-append bytes more))
     ]
 
 -- no packet begins with bad bytes, or is a front of them

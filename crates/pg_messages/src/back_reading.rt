@@ -24,11 +24,7 @@ pub fn decode_back(alloc: Global, bytes: &[u8]) -> Decoded<Back>
     back_at(alloc, bytes)
 }
 
-#[tactic(
-    auto,
-    unfolding(crate::specs::BackReading::back_of),
-    using(crate::proofs::Packets::answers_decoded)
-)]
+#[tactic(auto, unfolding(crate::specs::BackReading::back_of), using(crate::proofs::Packets::answers_decoded))]
 fn back_at(alloc: Global, bytes: &[u8]) -> Decoded<Back>
     ensures { Answers result (back_of bytes.now) }
 {

@@ -27,11 +27,7 @@ pub fn decode_startup(alloc: Global, bytes: &[u8]) -> Decoded<Startup>
     startup_at(alloc, bytes)
 }
 
-#[tactic(
-    auto,
-    unfolding(crate::specs::StartupReading::startup_of),
-    using(crate::proofs::Packets::answers_decoded)
-)]
+#[tactic(auto, unfolding(crate::specs::StartupReading::startup_of), using(crate::proofs::Packets::answers_decoded))]
 fn startup_at(alloc: Global, bytes: &[u8]) -> Decoded<Startup>
     ensures { Answers result (startup_of bytes.now) }
 {
