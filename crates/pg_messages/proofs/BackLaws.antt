@@ -26,7 +26,7 @@ use Rattle.pg_messages.specs.Fields.{◌>>=◌, number_at, byte_at, string_at, t
 use Rattle.pg_messages.specs.Packet.{message_head, ended, packet_of, is_more, is_more_head}
 use Rattle.pg_messages.specs.Spelling.{IsBytes, AreSpelled, is_string, string, message}
 use Rattle.pg_messages.proofs.FieldLaws.{bind_ok, ok_is, guard_ok, guarded_ok, ended_ok, ended_again, Takes, Takes-then, wide16, wide32, number_takes, number_again, byte_takes, string_again, string_takes, IsBytes-drop}
-use Rattle.pg_messages.proofs.MessageLaws.{message_again, message_takes, head_kept, head_within, packet_kept}
+use Rattle.pg_messages.proofs.MessageLaws.{message_again, message_takes, head_kept, head_more, head_within, packet_kept}
 use Rattle.pg_messages.proofs.Lengths.{refusal_none}
 use Rattle.pg_messages.proofs.Packets.{is_more_packet}
 use Rattle.pg_messages.proofs.SequenceLaws.{NextTakes, until_takes, until_again, times_take, times_again}
@@ -606,3 +606,15 @@ pub back_written : (m : Back) → HasNumbers m → back_refusal m ≡ None → I
 back_written m numbers h =
     let fits = refusal_none (is_spelled_back m) (length (back_layout m) + 4) BACK_LIMIT h in
     record { spelled = fits.0; numbers = numbers; body = back_layout m; laid_out = laid_out m; within = fits.1; bytes = refl }
+
+-- ---- bounds
+
+pub back_least : (m : Back) (n : ℕ) (bytes : List ℕ) → IsBack m (take n bytes) → 5 ≤ n
+back_least m n bytes is = omega (arith, ap length is.bytes, length-take n bytes, length-append (to_be_bytes w32 (length (is.body) + 4)) (is.body), wide32.len (length (is.body) + 4))
+
+pub back_more : (bytes : List ℕ) → is_more (back_of bytes) ≡ true → length bytes ≤ BACK_LIMIT
+unfolding back_of back_head
+back_more [] h = omega arith
+back_more (byte ∷ rest) h =
+    let told : is_more_head (message_head BACK_LIMIT (back_kind byte) rest) ≡ true = sym (is_more_packet back_body 5 (message_head BACK_LIMIT (back_kind byte) rest) (byte ∷ rest)) ∙ h in
+    omega (arith, head_more BACK_LIMIT (back_kind byte) rest (omega arith) told)

@@ -1,7 +1,8 @@
 -- The frontend messages: what is spelled is read, and what is read is spelled so.
 use Rattle.std.proofs.Common.{◌≡◌, ℕ, suc, ◌+◌, ◌<◌, ◌≤◌, true, false, eqb, List, [], ◌∷◌, ◌++◌, length, take, Option, Some, None, Ok, refl, sym, ap, ap₂, subst, ◌∙◌, arith, inl, inr, lit<}
+use Rattle.std.specs.Int.{w32, to_be_bytes}
 use Rattle.std.proofs.lemmas.Bool.{cases_Bool, eqb-true}
-use Rattle.std.proofs.lemmas.List.{append-nil, length-append}
+use Rattle.std.proofs.lemmas.List.{append-nil, length-append, length-take}
 use Rattle.pg_messages.specs.declared.decoded.Decoded.{Decoded}
 use Rattle.pg_messages.specs.declared.decoded.Decoded.TheVariants as decoded
 use Rattle.pg_messages.specs.declared.decoded.Why.{Why}
@@ -16,8 +17,8 @@ use Rattle.pg_messages.specs.Packet.{message_head, packet_of, is_more, is_more_h
 use Rattle.pg_messages.specs.FrontReading.{front_kind, front_head, front_fields, front_body, front_of}
 use Rattle.pg_messages.specs.FrontSpelling.{front_byte, front_layout, front_bytes, is_spelled_front, front_refusal, IsFront}
 use Rattle.pg_messages.specs.Spelling.{IsBytes, message}
-use Rattle.pg_messages.proofs.FieldLaws.{bind_ok, ok_is, ended_ok, ended_again, string_again, string_takes}
-use Rattle.pg_messages.proofs.MessageLaws.{message_again, message_takes, head_kept, head_within, packet_kept}
+use Rattle.pg_messages.proofs.FieldLaws.{bind_ok, ok_is, ended_ok, ended_again, string_again, string_takes, wide32}
+use Rattle.pg_messages.proofs.MessageLaws.{message_again, message_takes, head_kept, head_more, head_within, packet_kept}
 use Rattle.pg_messages.proofs.Lengths.{refusal_none}
 use Rattle.pg_messages.proofs.Packets.{is_more_packet}
 
@@ -161,3 +162,15 @@ pub front_written : (m : Front) → front_refusal m ≡ None → IsFront m (fron
 front_written m h =
     let fits = refusal_none (is_spelled_front m) (length (front_layout m) + 4) FRONT_LIMIT h in
     record { spelled = fits.0; within = fits.1; bytes = refl }
+
+-- ---- bounds
+
+pub front_least : (m : Front) (n : ℕ) (bytes : List ℕ) → IsFront m (take n bytes) → 5 ≤ n
+front_least m n bytes is = omega (arith, ap length is.bytes, length-take n bytes, length-append (to_be_bytes w32 (length (front_layout m) + 4)) (front_layout m), wide32.len (length (front_layout m) + 4))
+
+pub front_more : (bytes : List ℕ) → is_more (front_of bytes) ≡ true → length bytes ≤ FRONT_LIMIT
+unfolding front_of front_head
+front_more [] h = omega arith
+front_more (byte ∷ rest) h =
+    let told : is_more_head (message_head FRONT_LIMIT (front_kind byte) rest) ≡ true = sym (is_more_packet front_body 5 (message_head FRONT_LIMIT (front_kind byte) rest) (byte ∷ rest)) ∙ h in
+    omega (arith, head_more FRONT_LIMIT (front_kind byte) rest (omega arith) told)

@@ -2,7 +2,7 @@
 use Rattle.std.proofs.Common.{◌≡◌, ℕ, suc, ◌+◌, ◌^◌, ◌<◌, ◌≤◌, Bool, true, false, ltb, List, ◌∷◌, ◌++◌, length, take, drop, Option, Some, None, Result, Ok, Err, refl, sym, ap, ap₂, ◌∙◌, append_assoc, arith, inl, inr}
 use Rattle.std.specs.Prelude.{◌||◌}
 use Rattle.std.specs.Int.{w32, from_be_bytes, to_be_bytes}
-use Rattle.std.proofs.lemmas.Bool.{ltb-false, le-ltb, cases_Bool}
+use Rattle.std.proofs.lemmas.Bool.{ltb-true, ltb-false, le-ltb, cases_Bool}
 use Rattle.std.proofs.lemmas.List.{take_at, drop_at, take-append-drop, take-append-le, take-take, length-append, length-take, length-drop}
 use Rattle.pg_messages.specs.declared.decoded.Decoded.TheVariants as decoded
 use Rattle.pg_messages.specs.declared.decoded.Why.TheVariants as why
@@ -190,3 +190,27 @@ packet_kept body_of skipped head.More bytes more within = refl
 packet_kept body_of skipped (head.Bad place cause) bytes more within = refl
 packet_kept body_of skipped (head.Packet at n) bytes more within =
     ap (λ (t : List ℕ). decoded_as n (body_of at (drop skipped t))) (take-append-le n bytes more (within at n refl))
+
+-- ---- what is waited for is short
+
+sized_more : {K : Type 0} (most : ℕ) (kind : K) (rest : List ℕ) (size : ℕ) → is_more_head (sized_head most kind rest size) ≡ true → length rest < most
+sized_more most kind rest size h =
+    elim (cases_Bool (ltb size 4)) [
+      | inl low ↦ (let no : false ≡ true = rw low at h in absurd cc)
+      | inr low ↦ elim (cases_Bool (ltb most size)) [
+        | inl high ↦ (let no : false ≡ true = rw (low, high) at h in absurd cc)
+        | inr high ↦ elim (cases_Bool (ltb (length rest) size)) [
+          | inl short ↦ omega (arith, ltb-true (length rest) size short, ltb-false most size high)
+          | inr long ↦ (let no : false ≡ true = rw (low, high, long) at h in absurd cc)
+        ]
+      ]
+    ]
+
+pub head_more : {K : Type 0} (most : ℕ) (kind : Option K) (rest : List ℕ) → 4 ≤ most → is_more_head (message_head most kind rest) ≡ true → length rest < most
+unfolding message_head
+head_more most None rest le h = absurd cc
+head_more most (Some kind) rest le h =
+    elim (cases_Bool (ltb (length rest) 4)) [
+      | inl short ↦ omega (arith, ltb-true (length rest) 4 short)
+      | inr long ↦ sized_more most kind rest (from_be_bytes w32 (take 4 rest)) (rw long at h)
+    ]

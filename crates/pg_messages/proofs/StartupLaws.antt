@@ -3,7 +3,7 @@ use Rattle.std.proofs.Common.{◌≡◌, ℕ, ◌+◌, ◌^◌, ◌<◌, ◌≤�
 use Rattle.std.specs.Prelude.{◌⊎◌, ◌&&◌, ◌==◌}
 use Rattle.std.specs.Int.{w32, from_be_bytes, to_be_bytes}
 use Rattle.std.specs.List.{flat_map}
-use Rattle.std.proofs.lemmas.Bool.{cases_Bool, eqb-true, ltb-false, le-ltb, le-leb, and_parts, and_from, not-true}
+use Rattle.std.proofs.lemmas.Bool.{cases_Bool, eqb-true, ltb-true, ltb-false, le-ltb, le-leb, and_parts, and_from, not-true}
 use Rattle.std.proofs.lemmas.List.{append-nil, take_at, drop_at, take-append-drop, take-append-le, drop-append-le, take-take, drop-take, length-append, length-take, length-drop, nil_from_length}
 use Rattle.pg_messages.specs.declared.decoded.Decoded.{Decoded}
 use Rattle.pg_messages.specs.declared.decoded.Decoded.TheVariants as decoded
@@ -358,3 +358,43 @@ pub startup_written : (m : Startup) → startup_code m < 2 ^ 32 → startup_refu
 startup_written m code h =
     let fits = refusal_none (is_spelled_startup m) (length (startup_layout m) + 8) STARTUP_LIMIT h in
     record { spelled = fits.0; code = code; rest = startup_layout m; laid_out = laid_out m; within = fits.1; bytes = refl }
+
+-- ---- bounds
+
+pub startup_least : (m : Startup) (n : ℕ) (bytes : List ℕ) → IsStartup m (take n bytes) → 8 ≤ n
+startup_least m n bytes is =
+    omega (arith, ap length is.bytes, length-take n bytes, length-append (to_be_bytes w32 (length is.rest + 8) ++ to_be_bytes w32 (startup_code m)) is.rest, length-append (to_be_bytes w32 (length is.rest + 8)) (to_be_bytes w32 (startup_code m)), wide32.len (length is.rest + 8), wide32.len (startup_code m))
+
+coded_more : (at : StartupKind) (size : ℕ) (bytes : List ℕ) → is_more_head (coded_head at size bytes) ≡ true → length bytes < size
+coded_more at size bytes h =
+    elim (cases_Bool (has_length at size)) [
+      | inl fits ↦ elim (cases_Bool (ltb (length bytes) size)) [
+        | inl short ↦ ltb-true (length bytes) size short
+        | inr long ↦ (let no : false ≡ true = rw (fits, long) at h in absurd cc)
+      ]
+      | inr other ↦ (let no : false ≡ true = rw other at h in absurd cc)
+    ]
+
+sized_more : (size : ℕ) (rest bytes : List ℕ) → length bytes ≤ length rest + 4 → is_more_head (sized_head size rest bytes) ≡ true → length bytes < STARTUP_LIMIT
+sized_more size rest bytes parts h =
+    elim (cases_Bool (ltb size 8)) [
+      | inl low ↦ (let no : false ≡ true = rw low at h in absurd cc)
+      | inr low ↦ elim (cases_Bool (ltb STARTUP_LIMIT size)) [
+        | inl high ↦ (let no : false ≡ true = rw (low, high) at h in absurd cc)
+        | inr high ↦ elim (cases_Bool (ltb (length rest) 4)) [
+          | inl short ↦ omega (arith, ltb-true (length rest) 4 short)
+          | inr long ↦
+              let coded = coded_more (startup_kind (from_be_bytes w32 (take 4 rest))) size bytes (rw (low, high, long) at h) in
+              omega (arith, coded, ltb-false STARTUP_LIMIT size high)
+        ]
+      ]
+    ]
+
+pub startup_more : (bytes : List ℕ) → is_more (startup_of bytes) ≡ true → length bytes < STARTUP_LIMIT
+unfolding startup_of startup_head
+startup_more bytes h =
+    let told : is_more_head (startup_head bytes) ≡ true = sym (is_more_packet startup_fields 8 (startup_head bytes) bytes) ∙ h in
+    elim (cases_Bool (ltb (length bytes) 4)) [
+      | inl short ↦ omega (arith, ltb-true (length bytes) 4 short)
+      | inr long ↦ sized_more (from_be_bytes w32 (take 4 bytes)) (drop 4 bytes) bytes (omega (arith, length-drop 4 bytes)) (rw long at told)
+    ]

@@ -16,6 +16,7 @@ use std::alloc::Global;
 pub fn decode_back(alloc: Global, bytes: &[u8]) -> Decoded<Back>
     // What is read is spelled so by its bytes.
     ensures whole { IfWhole result (λ m n. (n ≤ length bytes.now) × IsBack m (take n bytes.now)) }
+    ensures within { IfWhole result (λ m n. (5 ≤ n) × (n ≤ length bytes.now)) }
     // What is spelled so is read, whatever follows it.
     ensures read { (m : Back) (packet rest : Items ℕ) → IsBack m packet → bytes.now ≡ packet ++ rest → Answers result (Decoded.Whole m (length packet)) }
     // Where no message is read: its faults in their order, and their places.

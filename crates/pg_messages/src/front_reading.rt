@@ -15,6 +15,7 @@ use std::alloc::Global;
 pub fn decode_front(alloc: Global, bytes: &[u8]) -> Decoded<Front>
     // What is read is spelled so by its bytes.
     ensures whole { IfWhole result (λ m n. (n ≤ length bytes.now) × IsFront m (take n bytes.now)) }
+    ensures within { IfWhole result (λ m n. (5 ≤ n) × (n ≤ length bytes.now)) }
     // What is spelled so is read, whatever follows it.
     ensures read { (m : Front) (packet rest : List ℕ) → IsFront m packet → bytes.now ≡ packet ++ rest → Answers result (Decoded.Whole m (length packet)) }
     // Where no message is read: its faults in their order, and their places.

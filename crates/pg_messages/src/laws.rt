@@ -1,4 +1,4 @@
-ghost use Rattle.std.specs.Prelude.{◌≡◌, ℕ, ◌+◌, ◌^◌, ◌<◌, ◌≤◌, false, List, ◌++◌, length, take};
+ghost use Rattle.std.specs.Prelude.{◌≡◌, ℕ, ◌+◌, ◌^◌, ◌<◌, ◌≤◌, true, false, List, ◌++◌, length, take};
 ghost use Rattle.pg_messages.specs.declared.back.Back.{Back};
 ghost use Rattle.pg_messages.specs.declared.decoded.Decoded.TheVariants as decoded;
 ghost use Rattle.pg_messages.specs.declared.decoded.Why.{Why};
@@ -12,6 +12,10 @@ ghost use Rattle.pg_messages.specs.Packet.{is_more};
 ghost use Rattle.pg_messages.specs.Spelling.{IsBytes};
 ghost use Rattle.pg_messages.specs.StartupReading.{startup_of};
 ghost use Rattle.pg_messages.specs.StartupSpelling.{startup_bytes, startup_code, startup_refusal, IsStartup};
+
+use crate::back::BACK_LIMIT;
+use crate::front::FRONT_LIMIT;
+use crate::startup::STARTUP_LIMIT;
 
 /// Laws of the start-up packets, of all values and all bytes. The call itself does nothing.
 pub fn startup_laws()
@@ -27,6 +31,8 @@ pub fn startup_laws()
     ensures front { (bytes more : List ℕ) (m : Startup) → IsBytes bytes → 0 < length more → IsStartup m (bytes ++ more) → startup_of bytes ≡ decoded.More }
     // Bad bytes begin no packet, and no packet begins them.
     ensures bad { (bytes more : List ℕ) (m : Startup) (packet rest : List ℕ) (place : ℕ) (cause : Why) → startup_of bytes ≡ decoded.Bad place cause → IsStartup m packet → bytes ++ more ≡ packet ++ rest → ⊥ }
+    // What is waited for is shorter than the longest packet.
+    ensures waits { (bytes : List ℕ) → is_more (startup_of bytes) ≡ true → length bytes < STARTUP_LIMIT }
     // What lies behind a packet, be it whole or bad, changes nothing.
     ensures behind { (bytes more : List ℕ) → is_more (startup_of bytes) ≡ false → startup_of (bytes ++ more) ≡ startup_of bytes }
 {}
@@ -45,6 +51,8 @@ pub fn front_laws()
     ensures front { (bytes more : List ℕ) (m : Front) → IsBytes bytes → 0 < length more → IsFront m (bytes ++ more) → front_of bytes ≡ decoded.More }
     // Bad bytes begin no packet, and no packet begins them.
     ensures bad { (bytes more : List ℕ) (m : Front) (packet rest : List ℕ) (place : ℕ) (cause : Why) → front_of bytes ≡ decoded.Bad place cause → IsFront m packet → bytes ++ more ≡ packet ++ rest → ⊥ }
+    // What is waited for is shorter than the longest packet.
+    ensures waits { (bytes : List ℕ) → is_more (front_of bytes) ≡ true → length bytes ≤ FRONT_LIMIT }
     // What lies behind a packet, be it whole or bad, changes nothing.
     ensures behind { (bytes more : List ℕ) → is_more (front_of bytes) ≡ false → front_of (bytes ++ more) ≡ front_of bytes }
 {}
@@ -63,6 +71,8 @@ pub fn back_laws()
     ensures front { (bytes more : List ℕ) (m : Back) → IsBytes bytes → 0 < length more → IsBack m (bytes ++ more) → back_of bytes ≡ decoded.More }
     // Bad bytes begin no packet, and no packet begins them.
     ensures bad { (bytes more : List ℕ) (m : Back) (packet rest : List ℕ) (place : ℕ) (cause : Why) → back_of bytes ≡ decoded.Bad place cause → IsBack m packet → bytes ++ more ≡ packet ++ rest → ⊥ }
+    // What is waited for is shorter than the longest packet.
+    ensures waits { (bytes : List ℕ) → is_more (back_of bytes) ≡ true → length bytes ≤ BACK_LIMIT }
     // What lies behind a packet, be it whole or bad, changes nothing.
     ensures behind { (bytes more : List ℕ) → is_more (back_of bytes) ≡ false → back_of (bytes ++ more) ≡ back_of bytes }
 {}

@@ -19,15 +19,15 @@ mod startup;
 mod startup_reading;
 mod startup_writing;
 
-pub use back::{Back, ErrorField, Field, Status};
+pub use back::{BACK_LIMIT, Back, ErrorField, Field, Status};
 pub use back_reading::decode_back;
 pub use back_writing::encode_back;
 pub use decoded::{Decoded, Why};
 pub use encode_refused::EncodeRefused;
-pub use front::Front;
+pub use front::{FRONT_LIMIT, Front};
 pub use front_reading::{decided_front, decode_front};
 pub use front_writing::encode_front;
 pub use laws::{back_laws, front_laws, startup_laws};
-pub use startup::{Pair, Startup};
+pub use startup::{Pair, STARTUP_LIMIT, Startup};
 pub use startup_reading::{decided_startup, decode_startup};
 pub use startup_writing::encode_startup;

@@ -19,6 +19,7 @@ const STARTUP_HEAD: usize = 8;
 pub fn decode_startup(alloc: Global, bytes: &[u8]) -> Decoded<Startup>
     // What is read is spelled so by its bytes.
     ensures whole { IfWhole result (λ m n. (n ≤ length bytes.now) × IsStartup m (take n bytes.now)) }
+    ensures within { IfWhole result (λ m n. (8 ≤ n) × (n ≤ length bytes.now)) }
     // What is spelled so is read, whatever follows it.
     ensures read { (m : Startup) (packet rest : List ℕ) → IsStartup m packet → bytes.now ≡ packet ++ rest → Answers result (Decoded.Whole m (length packet)) }
     // Where no packet is read: its faults in their order, and their places.

@@ -1,4 +1,4 @@
-use Rattle.pg_messages.proofs.FrontLaws.{front_written, front_again, front_takes, front_one, front_front, front_bad, front_kept}
+use Rattle.pg_messages.proofs.FrontLaws.{front_written, front_again, front_takes, front_one, front_front, front_bad, front_kept, front_more}
 use Rattle.pg_messages.proofs.laws.front_laws.Goals as goal
 
 pub returns : goal.returns
@@ -9,5 +9,6 @@ returns c = record {
   one = front_one;
   front = front_front;
   bad = front_bad;
+  waits = front_more;
   behind = front_kept;
 }
