@@ -1,3 +1,9 @@
+pub mod BackLaws
+pub mod FieldLaws
+pub mod FrontLaws
 pub mod Lengths
 pub mod Loops
+pub mod MessageLaws
 pub mod Packets
+pub mod SequenceLaws
+pub mod StartupLaws

@@ -1,10 +1,10 @@
 -- Loops that read values one behind the other: what was read, before what reading the rest gives, is what reading all
 -- gives.
-use Rattle.std.proofs.Common.{◌≡◌, ℕ, zero, suc, ◌+◌, ◌-◌, ◌<◌, ◌≤◌, List, [], ◌∷◌, ◌++◌, length, Option, Some, None, Result, Ok, Err, refl, sym, ap, ◌∙◌, append_assoc, arith}
+use Rattle.std.proofs.Common.{◌≡◌, ℕ, suc, ◌+◌, ◌-◌, ◌<◌, ◌≤◌, List, [], ◌∷◌, ◌++◌, length, Option, Some, None, Result, Ok, Err, refl, sym, ap, ◌∙◌, append_assoc, arith}
 use Rattle.std.proofs.lemmas.List.{append-nil}
 use Rattle.pg_messages.specs.declared.fields.Fault.{Fault}
 use Rattle.pg_messages.specs.declared.fields.Fault.TheVariants as fault
-use Rattle.pg_messages.specs.Fields.{◌>>=◌, Fails, times, until_end, continued}
+use Rattle.pg_messages.specs.Fields.{◌>>=◌, Fails, times, until_end}
 
 abbrev pub joined : {X : Type 0} → List X → Result (List X × List ℕ) ℕ → Result (List X × List ℕ) ℕ
 joined front read = read >>= λ x. Ok (front ++ x.0, x.1)

@@ -1,11 +1,13 @@
 -- What was read of a body is the answer on its packet.
-use Rattle.std.proofs.Common.{◌≡◌, ℕ, false, List, take, drop, Result, Ok, Err, refl, ap}
+use Rattle.std.proofs.Common.{◌≡◌, ℕ, false, List, take, drop, Result, Ok, Err, refl, ap, subst}
+use Rattle.pg_messages.specs.declared.decoded.Decoded.{Decoded}
+use Rattle.pg_messages.specs.declared.decoded.Decoded.TheVariants as decoded
 use Rattle.pg_messages.specs.declared.fields.Fault.{Fault}
 use Rattle.pg_messages.specs.declared.fields.Fault.TheVariants as fault
 use Rattle.pg_messages.specs.Fields.{Gives}
 use Rattle.pg_messages.specs.declared.packet.Head.{Head}
 use Rattle.pg_messages.specs.declared.packet.Head.TheVariants as head
-use Rattle.pg_messages.specs.Packet.{Answers, decoded_as, decoded_from, packet_of, is_more, is_more_head}
+use Rattle.pg_messages.specs.Packet.{Answers, IfWhole, decoded_as, decoded_from, packet_of, is_more, is_more_head}
 
 pub answers_decoded : {T : Type 0} (n : ℕ) (result : Result T Fault) (read : Result T ℕ) → Gives (λ x. x) result read → Answers (decoded_from n result) (decoded_as n read)
 answers_decoded n (Ok x) read h = ap (decoded_as n) h
@@ -20,3 +22,12 @@ pub is_more_packet : {K T : Type 0} (body_of : K → List ℕ → Result T ℕ) 
 is_more_packet body_of skipped head.More bytes = refl
 is_more_packet body_of skipped (head.Bad place cause) bytes = refl
 is_more_packet body_of skipped (head.Packet kind n) bytes = is_more_decoded n (body_of kind (drop skipped (take n bytes)))
+
+pub whole_from : {T : Type 0} (P : T → ℕ → Type 0) (result read : Decoded T) → Answers result read → ((m : T) (n : ℕ) → read ≡ decoded.Whole m n → P m n) → IfWhole result P
+whole_from P (decoded.Whole m n) read h found = found m n h
+whole_from P decoded.More read h found = tt
+whole_from P (decoded.Bad place cause) read h found = tt
+whole_from P decoded.Memory read h found = tt
+
+pub answers_same : {T : Type 0} (result read expected : Decoded T) → Answers result read → read ≡ expected → Answers result expected
+answers_same result read expected h e = subst (Answers result) e h

@@ -39,15 +39,20 @@ zero_at bytes = do
   if number.0 == 0 then Ok number.1 else Err (length bytes)
 
 -- `I`, `T` or `E`
+abbrev pub status_told : List ℕ → ℕ → List ℕ → Result (Status × List ℕ) ℕ
+status_told bytes byte rest =
+    if byte == 73 then Ok (status.Idle, rest) else if byte == 84 then Ok (status.InBlock, rest) else if byte == 69 then Ok (status.Failed, rest) else Err (length bytes)
+
 abbrev pub status_at : List ℕ → Result (Status × List ℕ) ℕ
-status_at bytes = do
-  byte ← byte_at bytes
-  if byte.0 == 73 then Ok (status.Idle, byte.1) else if byte.0 == 84 then Ok (status.InBlock, byte.1) else if byte.0 == 69 then Ok (status.Failed, byte.1) else Err (length bytes)
+status_at bytes = byte_at bytes >>= λ byte. status_told bytes byte.0 byte.1
 
 abbrev pub format_at : List ℕ → Result (ℕ × List ℕ) ℕ
 format_at bytes = do
   format ← number_at w16 bytes
   if nat_lt 1 format.0 then Err (length bytes) else Ok format
+
+abbrev pub field_of : List ℕ → ℕ → ℕ → ℕ → Field
+field_of name kind size format = record { name = name; kind_number = kind; size = cast_signed w16 size; format = format }
 
 -- a field of a row's description; its table, its attribute and its modifier may be any numbers
 unfoldable pub field_at : List ℕ → Result (Field × List ℕ) ℕ
@@ -59,7 +64,7 @@ field_at bytes = do
   size ← number_at w16 kind.1
   modifier ← number_at w32 size.1
   format ← format_at modifier.1
-  Ok (record { name = name.0; kind_number = kind.0; size = cast_signed w16 size.0; format = format.0 }, format.1)
+  Ok (field_of name.0 kind.0 size.0 format.0, format.1)
 
 -- The cell of this length, whose length field begins the first bytes and is followed by the second ones. The length
 -- is a signed number: -1 is a null cell, and those below are none.
@@ -70,9 +75,11 @@ sized_cell bytes size rest =
 unfoldable pub cell_at : List ℕ → Result (Option (List ℕ) × List ℕ) ℕ
 cell_at bytes = number_at w32 bytes >>= λ size. sized_cell bytes size.0 size.1
 
+abbrev pub error_field_of : ℕ → List ℕ → ErrorField
+error_field_of code text = record { code = code; text = text }
+
 abbrev pub coded_field : ℕ → List ℕ → Result (Option ErrorField × List ℕ) ℕ
-coded_field code rest =
-    if code == 0 then Ok (None, rest) else string_at rest >>= λ text. Ok (Some (record { code = code; text = text.0 }), text.1)
+coded_field code rest = if code == 0 then Ok (None, rest) else string_at rest >>= λ text. Ok (Some (error_field_of code text.0), text.1)
 
 -- the next field of an error, or none at the zero byte that ends them
 unfoldable pub next_error_field : List ℕ → Result (Option ErrorField × List ℕ) ℕ

@@ -1,7 +1,7 @@
 -- The backend messages, each as the chapter "Message Formats" of the PostgreSQL manual lays it out.
-use Rattle.std.specs.Prelude.{ℕ, ◌+◌, ◌==◌, Bool, true, not, ◌&&◌, List, [], ◌∷◌, ◌++◌, length, Option, Some, None, nat_le}
+use Rattle.std.specs.Prelude.{◌≡◌, ℕ, ◌+◌, ◌^◌, ◌<◌, ◌≤◌, ◌==◌, Bool, true, not, ◌&&◌, FitsSigned, List, [], ◌∷◌, ◌++◌, length, Option, Some, None, nat_le}
 use Rattle.std.specs.Int.{w16, w32, to_be_bytes, cast_unsigned}
-use Rattle.std.specs.List.{flat_map, list_all}
+use Rattle.std.specs.List.{flat_map, list_all, AllByRecursion}
 use Rattle.pg_messages.specs.declared.back.Back.{Back}
 use Rattle.pg_messages.specs.declared.back.Back.TheVariants as back
 use Rattle.pg_messages.specs.declared.back.ErrorField.{ErrorField}
@@ -10,7 +10,7 @@ use Rattle.pg_messages.specs.declared.back.Status.{Status}
 use Rattle.pg_messages.specs.declared.back.Status.TheVariants as status
 use Rattle.pg_messages.specs.declared.back.TheConstants.{BACK_LIMIT, COUNT_LIMIT, MINUS_ONE}
 use Rattle.pg_messages.specs.declared.encode_refused.EncodeRefused.{EncodeRefused}
-use Rattle.pg_messages.specs.Spelling.{is_string, string, message, refusal_of}
+use Rattle.pg_messages.specs.Spelling.{AreSpelled, is_string, string, message, refusal_of}
 
 -- `R`, `K`, `S`, `Z`, `T`, `D`, `C` and `E`
 abbrev pub back_byte : Back → ℕ
@@ -77,3 +77,42 @@ is_spelled_back (back.ErrorResponse fields) = list_all is_error_field fields
 
 abbrev pub back_refusal : Back → Option EncodeRefused
 back_refusal m = refusal_of (is_spelled_back m) (length (back_layout m) + 4) BACK_LIMIT
+
+-- the text of a field, whatever its table, its attribute and its modifier
+abbrev pub IsFieldText : Field → List ℕ → Type 0
+IsFieldText f text = (table attribute modifier : ℕ) × (text ≡ field_with table attribute modifier f)
+
+-- the body of a message
+abbrev pub IsBody : Back → List ℕ → Type 0
+IsBody (back.RowDescription fields) body = (texts : List ℕ) × AreSpelled IsFieldText fields texts × (body ≡ to_be_bytes w16 (length fields) ++ texts)
+IsBody back.AuthenticationOk body = body ≡ back_layout back.AuthenticationOk
+IsBody (back.BackendKeyData process key) body = body ≡ back_layout (back.BackendKeyData process key)
+IsBody (back.ParameterStatus name value) body = body ≡ back_layout (back.ParameterStatus name value)
+IsBody (back.ReadyForQuery status) body = body ≡ back_layout (back.ReadyForQuery status)
+IsBody (back.DataRow cells) body = body ≡ back_layout (back.DataRow cells)
+IsBody (back.CommandComplete tag) body = body ≡ back_layout (back.CommandComplete tag)
+IsBody (back.ErrorResponse fields) body = body ≡ back_layout (back.ErrorResponse fields)
+
+-- the numbers of a message are within the widths of their fields
+pub record HasFieldNumbers (f : Field) : Type 0 where
+  pub kind_number : f.kind_number < 2 ^ 32
+  pub size : FitsSigned w16 f.size
+
+abbrev pub HasNumbers : Back → Type 0
+HasNumbers (back.BackendKeyData process key) = (process < 2 ^ 32) × (key < 2 ^ 32)
+HasNumbers (back.RowDescription fields) = AllByRecursion HasFieldNumbers fields
+HasNumbers back.AuthenticationOk = Unit {0}
+HasNumbers (back.ParameterStatus name value) = Unit {0}
+HasNumbers (back.ReadyForQuery status) = Unit {0}
+HasNumbers (back.DataRow cells) = Unit {0}
+HasNumbers (back.CommandComplete tag) = Unit {0}
+HasNumbers (back.ErrorResponse fields) = Unit {0}
+
+-- the bytes are this message
+pub record IsBack (m : Back) (packet : List ℕ) : Type 0 where
+  pub spelled : is_spelled_back m ≡ true
+  pub numbers : HasNumbers m
+  pub body : List ℕ
+  pub laid_out : IsBody m body
+  pub within : length body + 4 ≤ BACK_LIMIT
+  pub bytes : packet ≡ message (back_byte m) body

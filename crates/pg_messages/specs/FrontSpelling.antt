@@ -1,5 +1,5 @@
 -- The frontend messages, each as the chapter "Message Formats" of the PostgreSQL manual lays it out.
-use Rattle.std.specs.Prelude.{ℕ, ◌+◌, Bool, true, List, [], length, Option}
+use Rattle.std.specs.Prelude.{◌≡◌, ℕ, ◌+◌, ◌≤◌, Bool, true, List, [], length, Option}
 use Rattle.pg_messages.specs.declared.encode_refused.EncodeRefused.{EncodeRefused}
 use Rattle.pg_messages.specs.declared.front.Front.{Front}
 use Rattle.pg_messages.specs.declared.front.Front.TheVariants as front
@@ -24,3 +24,9 @@ is_spelled_front front.Terminate = true
 
 abbrev pub front_refusal : Front → Option EncodeRefused
 front_refusal m = refusal_of (is_spelled_front m) (length (front_layout m) + 4) FRONT_LIMIT
+
+-- the bytes are this message
+pub record IsFront (m : Front) (packet : List ℕ) : Type 0 where
+  pub spelled : is_spelled_front m ≡ true
+  pub within : length (front_layout m) + 4 ≤ FRONT_LIMIT
+  pub bytes : packet ≡ front_bytes m

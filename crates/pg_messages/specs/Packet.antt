@@ -16,6 +16,13 @@ Answers (decoded.Whole packet length) read = read ≡ decoded.Whole packet lengt
 Answers decoded.More read = read ≡ decoded.More
 Answers (decoded.Bad place cause) read = read ≡ decoded.Bad place cause
 
+-- A whole packet of so many bytes was read, for which this holds.
+abbrev pub IfWhole : {T : Type 0} → Decoded T → (T → ℕ → Type 0) → Type 0
+IfWhole (decoded.Whole packet length) P = P packet length
+IfWhole decoded.More P = Unit {0}
+IfWhole (decoded.Bad place cause) P = Unit {0}
+IfWhole decoded.Memory P = Unit {0}
+
 -- the packet's number of bytes is between these two
 abbrev pub IsWithin : {K : Type 0} → ℕ → ℕ → Head K → Type 0
 IsWithin least most head.More = Unit {0}

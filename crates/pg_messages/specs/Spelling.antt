@@ -1,9 +1,12 @@
 -- How the parts of a packet are spelled, and which values have a spelling.
-use Rattle.std.specs.Prelude.{◌≡◌, ℕ, ◌+◌, ◌-◌, ◌^◌, ◌==◌, Bool, not, min, List, [], ◌∷◌, ◌++◌, length, Option, Some, None, Result, Ok, Err, nat_lt, if◌then◌else◌}
+use Rattle.std.specs.Prelude.{◌≡◌, ℕ, ◌+◌, ◌-◌, ◌^◌, ◌<◌, ◌==◌, slice_index, Bool, not, min, List, [], ◌∷◌, ◌++◌, length, Option, Some, None, Result, Ok, Err, nat_lt, if◌then◌else◌}
 use Rattle.std.specs.Int.{w32, to_be_bytes}
 use Rattle.std.specs.List.{list_all}
 use Rattle.pg_messages.specs.declared.encode_refused.EncodeRefused.{EncodeRefused}
 use Rattle.pg_messages.specs.declared.encode_refused.EncodeRefused.TheVariants as refused
+
+abbrev pub IsBytes : List ℕ → Type 0
+IsBytes bytes = (i : ℕ) → slice_index bytes i < 256
 
 -- bytes may stand as a string if none of them is zero
 abbrev pub is_string : List ℕ → Bool
@@ -12,6 +15,11 @@ is_string bytes = list_all (λ byte. not (byte == 0)) bytes
 -- a string ends with a zero byte
 abbrev pub string : List ℕ → List ℕ
 string bytes = bytes ++ 0 ∷ []
+
+-- the texts of the values, one behind the other
+abbrev pub AreSpelled : {X : Type 0} → (X → List ℕ → Type 0) → List X → List ℕ → Type 0
+AreSpelled IsText [] text = text ≡ []
+AreSpelled IsText (x ∷ xs) text = (first others : List ℕ) × (text ≡ first ++ others) × IsText x first × AreSpelled IsText xs others
 
 -- a message with this type byte; its length counts itself and the body
 abbrev pub message : ℕ → List ℕ → List ℕ

@@ -1,5 +1,5 @@
 -- How a start-up packet is read.
-use Rattle.std.specs.Prelude.{ℕ, ◌==◌, Bool, true, ◌||◌, not, List, [], ◌∷◌, length, take, drop, Option, Some, None, Result, Ok, Err, nat_le, nat_lt, if◌then◌else◌}
+use Rattle.std.specs.Prelude.{ℕ, ◌==◌, Bool, true, ◌||◌, not, List, length, take, drop, Option, Some, None, Result, Ok, Err, nat_le, nat_lt, if◌then◌else◌}
 use Rattle.std.specs.Int.{w32, from_be_bytes}
 use Rattle.pg_messages.specs.declared.decoded.Decoded.{Decoded}
 use Rattle.pg_messages.specs.declared.decoded.Why.TheVariants as why

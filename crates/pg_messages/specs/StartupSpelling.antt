@@ -1,5 +1,5 @@
 -- The start-up packets, each as the chapter "Message Formats" of the PostgreSQL manual lays it out.
-use Rattle.std.specs.Prelude.{ℕ, ◌+◌, ◌==◌, Bool, not, ◌&&◌, List, [], ◌∷◌, ◌++◌, length, Option}
+use Rattle.std.specs.Prelude.{◌≡◌, ℕ, ◌+◌, ◌^◌, ◌<◌, ◌≤◌, ◌==◌, Bool, true, not, ◌&&◌, List, [], ◌∷◌, ◌++◌, length, Option}
 use Rattle.std.specs.Int.{w32, to_be_bytes}
 use Rattle.std.specs.List.{flat_map, list_all}
 use Rattle.pg_messages.specs.declared.encode_refused.EncodeRefused.{EncodeRefused}
@@ -37,3 +37,17 @@ is_spelled_startup (startup.Other code) = not (code == STARTUP_CODE)
 
 abbrev pub startup_refusal : Startup → Option EncodeRefused
 startup_refusal m = refusal_of (is_spelled_startup m) (length (startup_layout m) + 8) STARTUP_LIMIT
+
+-- The rest of the packet, behind its code. That of a packet with another code may be any bytes.
+abbrev pub IsRest : Startup → List ℕ → Type 0
+IsRest (startup.Start pairs) rest = rest ≡ startup_layout (startup.Start pairs)
+IsRest (startup.Other code) rest = Unit {0}
+
+-- the bytes are this packet
+pub record IsStartup (m : Startup) (packet : List ℕ) : Type 0 where
+  pub spelled : is_spelled_startup m ≡ true
+  pub code : startup_code m < 2 ^ 32
+  pub rest : List ℕ
+  pub laid_out : IsRest m rest
+  pub within : length rest + 8 ≤ STARTUP_LIMIT
+  pub bytes : packet ≡ startup_packet (startup_code m) rest

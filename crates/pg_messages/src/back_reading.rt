@@ -1,7 +1,9 @@
-ghost use Rattle.std.specs.Prelude.{◌≡◌, ◌≤◌, length};
+ghost use Rattle.std.specs.Prelude.{◌≡◌, ℕ, ◌≤◌, List as Items, ◌++◌, length, take};
+ghost use Rattle.pg_messages.specs.declared.back.Back.{Back};
 ghost use Rattle.pg_messages.specs.Fields.{Gives, times, until_end};
-ghost use Rattle.pg_messages.specs.Packet.{Answers, IsWithin};
+ghost use Rattle.pg_messages.specs.Packet.{Answers, IfWhole, IsWithin};
 ghost use Rattle.pg_messages.specs.BackReading.{back_kind, back_head, back_fields, back_body, back_of, zero_at, status_at, format_at, field_at, cell_at, next_error_field};
+ghost use Rattle.pg_messages.specs.BackSpelling.{IsBack};
 
 use crate::back::{BACK_LIMIT, Back, BackKind, ErrorField, Field, MINUS_ONE, Status};
 use crate::decoded::Decoded;
@@ -11,8 +13,20 @@ use feature_expr::{List, Text};
 use std::alloc::Global;
 
 /// The message of a server at the front of the bytes. What lies behind it isn't looked at.
-#[tactic(auto, unfolding(crate::specs::BackReading::back_of), using(crate::proofs::Packets::answers_decoded))]
 pub fn decode_back(alloc: Global, bytes: &[u8]) -> Decoded<Back>
+    // What is read is spelled so by its bytes.
+    ensures whole { IfWhole result (λ m n. (n ≤ length bytes.now) × IsBack m (take n bytes.now)) }
+    ensures within { IfWhole result (λ m n. (5 ≤ n) × (n ≤ length bytes.now)) }
+    // What is spelled so is read, whatever follows it.
+    ensures read { (m : Back) (packet rest : Items ℕ) → IsBack m packet → bytes.now ≡ packet ++ rest → Answers result (Decoded.Whole m (length packet)) }
+    // Where no message is read: its faults in their order, and their places.
+    ensures exact { Answers result (back_of bytes.now) }
+{
+    back_at(alloc, bytes)
+}
+
+#[tactic(auto, unfolding(crate::specs::BackReading::back_of), using(crate::proofs::Packets::answers_decoded))]
+fn back_at(alloc: Global, bytes: &[u8]) -> Decoded<Back>
     ensures { Answers result (back_of bytes.now) }
 {
     match read_back_head(bytes) {

@@ -1,7 +1,7 @@
 ghost use Rattle.std.specs.Prelude.{◌≡◌, ◌+◌, ◌≤◌, ◌++◌, length, vec_len, vec_capacity, OnOk, OnErr, IsTrue, Option};
-ghost use Rattle.std.specs.List.{flat_map, list_all};
+ghost use Rattle.std.specs.List.{flat_map, list_all, AllByRecursion};
 ghost use Rattle.pg_messages.specs.Spelling.{Refuses, told};
-ghost use Rattle.pg_messages.specs.BackSpelling.{back_byte, status_byte, field_bytes, cell_bytes, error_field_bytes, back_layout, back_bytes, is_field, is_error_field, is_spelled_back, back_refusal};
+ghost use Rattle.pg_messages.specs.BackSpelling.{back_byte, status_byte, field_bytes, cell_bytes, error_field_bytes, back_layout, back_bytes, is_field, is_error_field, is_spelled_back, back_refusal, HasFieldNumbers, HasNumbers, IsBack};
 
 use crate::back::{BACK_LIMIT, Back, COUNT_LIMIT, ErrorField, Field, MINUS_ONE, Status};
 use crate::encode_refused::EncodeRefused;
@@ -12,9 +12,10 @@ use crate::puts::{
 use feature_expr::{List, Text};
 
 /// Writes a message at the end. What was there stays, whatever the answer.
-#[tactic(auto, using(crate::proofs::Lengths::refusal_told))]
+#[tactic(auto, using(crate::proofs::Lengths::refusal_told, crate::proofs::BackLaws::back_written))]
 pub fn encode_back(back: &Back, into: &mut Vec<u8>) -> Result<(), EncodeRefused>
     ensures ok { OnOk result (into.new.items ≡ into.old.items ++ back_bytes back.now) }
+    ensures spelled { OnOk result (IsBack back.now (back_bytes back.now)) }
     ensures err { OnErr result (into.new.items ≡ into.old.items) }
     ensures refused { Refuses result (back_refusal back.now) }
 {
@@ -156,7 +157,8 @@ fn put_back(back: &Back, into: &mut Vec<u8>)
     requires spelled { IsTrue (is_spelled_back back.now) }
     requires small { length (back_layout back.now) ≤ BACK_LIMIT }
     requires room { vec_len into.old + length (back_layout back.now) ≤ vec_capacity into.old }
-    ensures { into.new.items ≡ into.old.items ++ back_layout back.now }
+    ensures bytes { into.new.items ≡ into.old.items ++ back_layout back.now }
+    ensures numbers { HasNumbers back.now }
 {
     match back {
         Back::AuthenticationOk => put_u32(0, into),
@@ -192,7 +194,8 @@ fn status_code(status: Status) -> u8
 fn put_row_description(fields: &List<Field>, into: &mut Vec<u8>)
     requires count { length fields.now ≤ COUNT_LIMIT }
     requires room { vec_len into.old + (2 + length (flat_map field_bytes fields.now)) ≤ vec_capacity into.old }
-    ensures { into.new.items ≡ into.old.items ++ back_layout (Back.RowDescription fields.now) }
+    ensures bytes { into.new.items ≡ into.old.items ++ back_layout (Back.RowDescription fields.now) }
+    ensures numbers { AllByRecursion HasFieldNumbers fields.now }
 {
     put_u16(fields.len() as u16, into);
     put_fields(fields.as_slice(), into);
@@ -202,6 +205,7 @@ fn put_fields(fields: &[Field], into: &mut Vec<u8>)
     requires { vec_len into.old + length (flat_map field_bytes fields.now) ≤ vec_capacity into.old }
     ensures bytes { into.new.items ≡ into.old.items ++ flat_map field_bytes fields.now }
     ensures room { vec_capacity into.old ≤ vec_capacity into.new }
+    ensures numbers { AllByRecursion HasFieldNumbers fields.now }
 {
     for field in fields {
         put_field(field, into);
@@ -212,6 +216,7 @@ fn put_field(field: &Field, into: &mut Vec<u8>)
     requires { vec_len into.old + length (field_bytes field.now) ≤ vec_capacity into.old }
     ensures bytes { into.new.items ≡ into.old.items ++ field_bytes field.now }
     ensures room { vec_capacity into.old ≤ vec_capacity into.new }
+    ensures numbers { HasFieldNumbers field.now }
 {
     put_string(&field.name, into);
     put_u32(0, into);

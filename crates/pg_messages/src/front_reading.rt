@@ -1,7 +1,9 @@
-ghost use Rattle.std.specs.Prelude.{◌≡◌, ◌≤◌, length, not};
+ghost use Rattle.std.specs.Prelude.{◌≡◌, ℕ, ◌≤◌, List, ◌++◌, length, take, not};
+ghost use Rattle.pg_messages.specs.declared.front.Front.{Front};
 ghost use Rattle.pg_messages.specs.Fields.{Gives};
-ghost use Rattle.pg_messages.specs.Packet.{Answers, IsWithin, is_more};
+ghost use Rattle.pg_messages.specs.Packet.{Answers, IfWhole, IsWithin, is_more};
 ghost use Rattle.pg_messages.specs.FrontReading.{front_kind, front_head, front_fields, front_body, front_of};
+ghost use Rattle.pg_messages.specs.FrontSpelling.{IsFront};
 
 use crate::decoded::Decoded;
 use crate::fields::{Fault, read_text};
@@ -10,8 +12,20 @@ use crate::packet::{Head, MESSAGE_HEAD, decoded, read_message_head};
 use std::alloc::Global;
 
 /// The message of a client at the front of the bytes. What lies behind it isn't looked at.
-#[tactic(auto, unfolding(crate::specs::FrontReading::front_of), using(crate::proofs::Packets::answers_decoded))]
 pub fn decode_front(alloc: Global, bytes: &[u8]) -> Decoded<Front>
+    // What is read is spelled so by its bytes.
+    ensures whole { IfWhole result (λ m n. (n ≤ length bytes.now) × IsFront m (take n bytes.now)) }
+    ensures within { IfWhole result (λ m n. (5 ≤ n) × (n ≤ length bytes.now)) }
+    // What is spelled so is read, whatever follows it.
+    ensures read { (m : Front) (packet rest : List ℕ) → IsFront m packet → bytes.now ≡ packet ++ rest → Answers result (Decoded.Whole m (length packet)) }
+    // Where no message is read: its faults in their order, and their places.
+    ensures exact { Answers result (front_of bytes.now) }
+{
+    front_at(alloc, bytes)
+}
+
+#[tactic(auto, unfolding(crate::specs::FrontReading::front_of), using(crate::proofs::Packets::answers_decoded))]
+fn front_at(alloc: Global, bytes: &[u8]) -> Decoded<Front>
     ensures { Answers result (front_of bytes.now) }
 {
     match read_front_head(bytes) {

@@ -1,6 +1,6 @@
 ghost use Rattle.std.specs.Prelude.{◌≡◌, ◌+◌, ◌≤◌, ◌++◌, length, vec_len, vec_capacity, OnOk, OnErr};
 ghost use Rattle.pg_messages.specs.Spelling.{Refuses, told};
-ghost use Rattle.pg_messages.specs.FrontSpelling.{front_byte, front_layout, front_bytes, is_spelled_front, front_refusal};
+ghost use Rattle.pg_messages.specs.FrontSpelling.{front_byte, front_layout, front_bytes, is_spelled_front, front_refusal, IsFront};
 
 use crate::encode_refused::EncodeRefused;
 use crate::front::{FRONT_LIMIT, Front};
@@ -9,9 +9,10 @@ use crate::puts::{
 };
 
 /// Writes a message at the end. What was there stays, whatever the answer.
-#[tactic(auto, using(crate::proofs::Lengths::refusal_told))]
+#[tactic(auto, using(crate::proofs::Lengths::refusal_told, crate::proofs::FrontLaws::front_written))]
 pub fn encode_front(front: &Front, into: &mut Vec<u8>) -> Result<(), EncodeRefused>
     ensures ok { OnOk result (into.new.items ≡ into.old.items ++ front_bytes front.now) }
+    ensures spelled { OnOk result (IsFront front.now (front_bytes front.now)) }
     ensures err { OnErr result (into.new.items ≡ into.old.items) }
     ensures refused { Refuses result (front_refusal front.now) }
 {

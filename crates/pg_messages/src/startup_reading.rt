@@ -1,7 +1,9 @@
-ghost use Rattle.std.specs.Prelude.{◌≡◌, ◌≤◌, length, not};
+ghost use Rattle.std.specs.Prelude.{◌≡◌, ℕ, ◌≤◌, List, ◌++◌, length, take, not};
+ghost use Rattle.pg_messages.specs.declared.startup.Startup.{Startup};
 ghost use Rattle.pg_messages.specs.Fields.{Gives, until_end};
-ghost use Rattle.pg_messages.specs.Packet.{Answers, IsWithin, is_more};
+ghost use Rattle.pg_messages.specs.Packet.{Answers, IfWhole, IsWithin, is_more};
 ghost use Rattle.pg_messages.specs.StartupReading.{startup_kind, has_length, coded_head, startup_head, next_pair, startup_fields, startup_of};
+ghost use Rattle.pg_messages.specs.StartupSpelling.{IsStartup};
 
 use crate::decoded::{Decoded, Why};
 use crate::fields::{Fault, read_string};
@@ -14,8 +16,20 @@ use std::alloc::Global;
 const STARTUP_HEAD: usize = 8;
 
 /// The start-up packet at the front of the bytes. What lies behind it isn't looked at.
-#[tactic(auto, unfolding(crate::specs::StartupReading::startup_of), using(crate::proofs::Packets::answers_decoded))]
 pub fn decode_startup(alloc: Global, bytes: &[u8]) -> Decoded<Startup>
+    // What is read is spelled so by its bytes.
+    ensures whole { IfWhole result (λ m n. (n ≤ length bytes.now) × IsStartup m (take n bytes.now)) }
+    ensures within { IfWhole result (λ m n. (8 ≤ n) × (n ≤ length bytes.now)) }
+    // What is spelled so is read, whatever follows it.
+    ensures read { (m : Startup) (packet rest : List ℕ) → IsStartup m packet → bytes.now ≡ packet ++ rest → Answers result (Decoded.Whole m (length packet)) }
+    // Where no packet is read: its faults in their order, and their places.
+    ensures exact { Answers result (startup_of bytes.now) }
+{
+    startup_at(alloc, bytes)
+}
+
+#[tactic(auto, unfolding(crate::specs::StartupReading::startup_of), using(crate::proofs::Packets::answers_decoded))]
+fn startup_at(alloc: Global, bytes: &[u8]) -> Decoded<Startup>
     ensures { Answers result (startup_of bytes.now) }
 {
     match read_startup_head(bytes) {

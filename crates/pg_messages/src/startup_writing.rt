@@ -1,7 +1,7 @@
 ghost use Rattle.std.specs.Prelude.{◌≡◌, ◌+◌, ◌≤◌, ◌++◌, length, vec_len, vec_capacity, OnOk, OnErr};
 ghost use Rattle.std.specs.List.{flat_map, list_all};
 ghost use Rattle.pg_messages.specs.Spelling.{Refuses, told};
-ghost use Rattle.pg_messages.specs.StartupSpelling.{startup_code, pair_bytes, startup_layout, startup_bytes, is_pair, is_spelled_startup, startup_refusal};
+ghost use Rattle.pg_messages.specs.StartupSpelling.{startup_code, pair_bytes, startup_layout, startup_bytes, is_pair, is_spelled_startup, startup_refusal, IsStartup};
 
 use crate::encode_refused::EncodeRefused;
 use crate::puts::{
@@ -10,9 +10,10 @@ use crate::puts::{
 use crate::startup::{Pair, STARTUP_CODE, STARTUP_LIMIT, Startup};
 
 /// Writes a start-up packet at the end. What was there stays, whatever the answer.
-#[tactic(auto, using(crate::proofs::Lengths::refusal_told))]
+#[tactic(auto, using(crate::proofs::Lengths::refusal_told, crate::proofs::StartupLaws::startup_written))]
 pub fn encode_startup(startup: &Startup, into: &mut Vec<u8>) -> Result<(), EncodeRefused>
     ensures ok { OnOk result (into.new.items ≡ into.old.items ++ startup_bytes startup.now) }
+    ensures spelled { OnOk result (IsStartup startup.now (startup_bytes startup.now)) }
     ensures err { OnErr result (into.new.items ≡ into.old.items) }
     ensures refused { Refuses result (startup_refusal startup.now) }
 {

@@ -1,4 +1,4 @@
-use Rattle.std.proofs.Common.{◌≡◌, ◌-◌, length}
+use Rattle.std.proofs.Common.{◌≡◌, ◌-◌}
 use Rattle.pg_messages.specs.BackReading.{field_at}
 use Rattle.pg_messages.specs.Fields.{times}
 use Rattle.pg_messages.proofs.Loops.{joined}
