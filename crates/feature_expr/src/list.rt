@@ -1,4 +1,4 @@
-ghost use Rattle.std.specs.Prelude.{◌≡◌, ◌==◌, [], ◌∷◌, ◌++◌, ◌<◌, length, slice_get, OnOk, OnSome, IfOk, IfErr, MatchOption};
+ghost use Rattle.std.specs.Prelude.{◌≡◌, ◌==◌, [], ◌∷◌, ◌++◌, ◌<◌, length, slice_get, OnOk, OnErr, OnSome, IfOk, IfErr, MatchOption};
 ghost use Rattle.std.specs.Option.{option_copied};
 
 use crate::memory::{Memory, TryCopy};
@@ -94,6 +94,15 @@ impl<T: Copy> List<T> {
     {
         let items = Vec::from_slice(alloc, items)?;
         Ok(List { items })
+    }
+
+    /// Adds items at the end, all of them or none.
+    pub fn extend_from_slice(&mut self, items: &[T]) -> Result<(), Memory>
+        ensures ok { OnOk result (self.new ≡ self.old ++ items.now) }
+        ensures err { OnErr result (self.new ≡ self.old) }
+    {
+        self.items.extend_from_slice(items)?;
+        Ok(())
     }
 }
 

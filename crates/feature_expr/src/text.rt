@@ -1,5 +1,6 @@
-ghost use Rattle.std.specs.Prelude.{◌≡◌, ◌==◌, [], ◌∷◌, ◌++◌, ◌<◌, length, slice_get, OnOk, OnSome, IfOk, IfErr, MatchOption};
+ghost use Rattle.std.specs.Prelude.{◌≡◌, ◌==◌, [], ◌∷◌, ◌++◌, ◌<◌, length, map, slice_get, OnOk, OnSome, IfOk, IfErr, MatchOption};
 ghost use Rattle.std.specs.Option.{option_copied};
+ghost use Rattle.std.specs.Char.{to_ascii_lowercase};
 ghost use Rattle.std.specs.Ordering.{nat_cmp, as_partial_cmp};
 ghost use Rattle.std.specs.Hash as fed;
 ghost use Rattle.std.specs.Cmp.{partial_order_from_own_ties};
@@ -190,6 +191,17 @@ impl Name {
     {
         let bytes = List::from_slice(alloc, bytes)?;
         Ok(Name { bytes })
+    }
+
+    /// The name that a word spells whose case doesn't count, as that of a table or a column: in ASCII lower case.
+    pub fn folded(alloc: Global, word: &[u8]) -> Result<Name, Memory>
+        ensures { IfOk result (λ it. it ≡ map to_ascii_lowercase word.now) }
+    {
+        let mut bytes = Vec::with_capacity(alloc, word.len())?;
+        for byte in word {
+            bytes.push(byte.to_ascii_lowercase())?;
+        }
+        Ok(Name::from_vec(bytes))
     }
 
     pub fn from_vec(bytes: Vec<u8>) -> Name

@@ -8,14 +8,14 @@ use pg_messages::{Back, Field};
 use std::alloc::Global;
 use vschema::{Column, OpeningRow, Table};
 
-/// Puts the description and the rows of a table, and answers the tag that is to follow them.
+/// Puts the description and the rows of a table, and answers the CommandComplete that is to follow them.
 pub fn put_table(
     alloc: Global,
     opening: &Opening,
     number: u32,
     table: &Table,
     output: &mut Output,
-) -> Result<Text, Memory> {
+) -> Result<Back, Memory> {
     output.put(&description(alloc, table.columns.as_slice())?)?;
     let mut count: u64 = 0;
     for row in opening.rows.as_slice() {
@@ -24,7 +24,7 @@ pub fn put_table(
             count = count.saturating_add(1);
         }
     }
-    select_tag(alloc, count)
+    Ok(Back::CommandComplete(select_tag(alloc, count)?))
 }
 
 /// A field for each column, and last the field `when`, which holds each row's condition.

@@ -1,4 +1,5 @@
-ghost use Rattle.std.specs.Prelude.{◌≡◌, ◌≤◌, [], ◌++◌, length, take, drop, IfOk};
+ghost use Rattle.std.specs.Prelude.{◌≡◌, ◌≤◌, [], ◌++◌, length, take, drop, IfOk, OnOk, OnErr};
+ghost use Rattle.pg_messages.specs.BackSpelling.{back_bytes};
 
 use feature_expr::Memory;
 use pg_messages::{Back, encode_back};
@@ -90,7 +91,10 @@ impl Output {
     }
 
     /// Puts a message behind the bytes that wait. Memory is the one reason for which a session's message isn't put.
-    pub fn put(&mut self, back: &Back) -> Result<(), Memory> {
+    pub fn put(&mut self, back: &Back) -> Result<(), Memory>
+        ensures ok { OnOk result (self.new ≡ self.old ++ back_bytes back.now) }
+        ensures err { OnErr result (self.new ≡ self.old) }
+    {
         match encode_back(back, &mut self.bytes) {
             Ok(()) => Ok(()),
             Err(_refused) => Err(Memory),

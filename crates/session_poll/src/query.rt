@@ -12,7 +12,7 @@ pub fn bare_table(alloc: Global, text: &[u8]) -> Result<Option<Name>, Memory> {
     };
     let tokens = tokens(alloc, text)?;
     match named_by(tokens.as_slice(), text.as_bytes()) {
-        Some(word) => Ok(Some(folded(alloc, word)?)),
+        Some(word) => Ok(Some(Name::folded(alloc, word)?)),
         None => Ok(None),
     }
 }
@@ -39,12 +39,4 @@ fn is_end(tokens: &[Token], text: &[u8]) -> bool {
         }
         None => true,
     }
-}
-
-fn folded(alloc: Global, word: &[u8]) -> Result<Name, Memory> {
-    let mut bytes = Vec::with_capacity(alloc, word.len())?;
-    for byte in word {
-        bytes.push(byte.to_ascii_lowercase())?;
-    }
-    Ok(Name::from_vec(bytes))
 }

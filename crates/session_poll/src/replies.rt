@@ -1,6 +1,7 @@
 //! The messages that a session sends, as values.
 
 use feature_expr::{List, Memory, Name, Text};
+use itoa::Buffer;
 use pg_messages::{Back, ErrorField};
 use std::alloc::Global;
 
@@ -9,6 +10,12 @@ pub fn parameter(alloc: Global, name: &[u8], value: &[u8]) -> Result<Back, Memor
     let name = Text::from_slice(alloc, name)?;
     let value = Text::from_slice(alloc, value)?;
     Ok(Back::ParameterStatus(name, value))
+}
+
+/// The snapshot of a transaction, told to the client.
+pub fn snapshot_told(alloc: Global, snapshot: u64) -> Result<Back, Memory> {
+    let mut buffer = Buffer::new();
+    parameter(alloc, b"vdb_snapshot", buffer.format(snapshot).as_bytes())
 }
 
 /// The error on a table that the catalogue doesn't have.

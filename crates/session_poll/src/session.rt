@@ -1,4 +1,5 @@
-ghost use Rattle.std.specs.Prelude.{◌≤◌, length};
+ghost use Rattle.std.specs.Prelude.{◌≡◌, ◌+◌, ◌-◌, [], ◌++◌, length, take, drop, min, IfOk};
+ghost use Rattle.session_poll.specs.declared.inbox.TheConstants.{INBOX_SIZE};
 
 use crate::inbox::Inbox;
 use crate::opening::Opening;
@@ -19,8 +20,13 @@ pub struct Session {
 }
 
 impl Session {
+    ghost use Rattle.session_poll.specs.Session.{held_of, waiting_of};
+
     /// A session that has taken nothing yet, with the memory for its inbox.
-    pub fn open(alloc: Global) -> Result<Session, Memory> {
+    pub fn open(alloc: Global) -> Result<Session, Memory>
+        ensures waiting { IfOk result (λ session. waiting_of session ≡ []) }
+        ensures held { IfOk result (λ session. held_of session ≡ []) }
+    {
         let inbox = Inbox::new(alloc)?;
         let output = Output::new(alloc)?;
         Ok(Session {
@@ -34,34 +40,48 @@ impl Session {
     }
 
     /// How many bytes more the inbox holds.
-    pub fn space(&self) -> usize {
+    pub fn space(&self) -> usize
+        ensures { result + length (held_of self.now) ≡ INBOX_SIZE }
+    {
         self.inbox.space()
     }
 
     /// Takes the first bytes that fit, and answers how many. It takes no memory.
     pub fn feed(&mut self, bytes: &[u8]) -> usize
-        ensures { result ≤ length bytes.now }
+        ensures count { result ≡ min (length bytes.now) (INBOX_SIZE - length (held_of self.old)) }
+        ensures held { held_of self.new ≡ held_of self.old ++ take result bytes.now }
+        ensures waiting { waiting_of self.new ≡ waiting_of self.old }
     {
         self.inbox.feed(bytes)
     }
 
     /// Says that nothing more comes.
-    pub fn end_input(&mut self) {
+    pub fn end_input(&mut self)
+        ensures waiting { waiting_of self.new ≡ waiting_of self.old }
+        ensures held { held_of self.new ≡ held_of self.old }
+    {
         self.is_over = true;
     }
 
     /// How many bytes wait to be sent.
-    pub fn waiting(&self) -> usize {
+    pub fn waiting(&self) -> usize
+        ensures { result ≡ length (waiting_of self.now) }
+    {
         self.output.len()
     }
 
     /// The bytes that wait to be sent, in order.
-    pub fn bytes(&self) -> &[u8] {
+    pub fn bytes(&self) -> &[u8]
+        ensures { result.now ≡ waiting_of self.now }
+    {
         self.output.bytes()
     }
 
     /// Drops the first bytes that wait, which were sent.
-    pub fn take(&mut self, count: usize) {
+    pub fn take(&mut self, count: usize)
+        ensures waiting { waiting_of self.new ≡ drop (min count (length (waiting_of self.old))) (waiting_of self.old) }
+        ensures held { held_of self.new ≡ held_of self.old }
+    {
         let count = count.min(self.output.len());
         self.output.take(count);
     }

@@ -1,4 +1,4 @@
-use feature_expr::Text;
+use pg_messages::Back;
 
 /// Where a session stands between two messages.
 #[derive(Drop)]
@@ -7,8 +7,8 @@ pub enum Phase {
     Start,
     /// A message may come.
     Ready,
-    /// The statement of a Query was answered, and its tag and the end of the Query are still to be sent.
-    Query(Text),
+    /// The statement of a Query was answered, and its CommandComplete and the end of the Query are still to be sent.
+    Query(Back),
     /// Nothing is taken any more.
     Ended,
 }

@@ -8,7 +8,7 @@ use crate::opening::Opening;
 use crate::packet::{front_length, startup_length};
 use crate::polled::Polled;
 use crate::query::bare_table;
-use crate::replies::{parameter, unknown_table};
+use crate::replies::{snapshot_told, unknown_table};
 use crate::session::Session;
 use crate::start_up::{is_taken, put_welcome};
 use crate::state::{Phase, Transaction};
@@ -18,12 +18,17 @@ use pg_messages::{
     decode_startup,
 };
 
+/// The number of a snapshot before any commit.
+const EMPTY_LOG: u64 = 0;
+
 impl Session {
     /// Takes at most one packet or one Query's end, and says how the session stands then.
     pub fn poll(&mut self, opening: &Opening) -> Polled {
-        if self.output.has_room() {
-            self.step(opening);
+        self.output.make_room();
+        if !self.output.has_room() {
+            return Polled::NeedOutput;
         }
+        self.step(opening);
         self.output.make_room();
         self.standing()
     }
@@ -39,24 +44,28 @@ impl Session {
 
     /// How the session stands, without a step.
     fn standing(&self) -> Polled {
-        let is_ended = matches!(&self.phase, Phase::Ended);
-        let can_work = self.output.has_room() && self.has_work();
-        if can_work {
+        let has_work = self.has_work();
+        if has_work && self.output.has_room() {
             Polled::Again
         } else if self.output.len() > 0 {
             Polled::NeedOutput
-        } else if is_ended {
+        } else if self.has_ended(has_work) {
             Polled::Closed
         } else {
             Polled::NeedInput
         }
     }
 
+    /// A session has also ended where nothing more comes and no work is left: a packet that isn't whole is dropped.
+    fn has_ended(&self, has_work: bool) -> bool {
+        matches!(&self.phase, Phase::Ended) || self.is_over && !has_work
+    }
+
     /// Whether the next poll can do something without more input.
     fn has_work(&self) -> bool {
         match &self.phase {
-            Phase::Start => self.is_over || decided_startup(self.inbox.bytes()),
-            Phase::Ready => self.is_over || decided_front(self.inbox.bytes()),
+            Phase::Start => decided_startup(self.held()),
+            Phase::Ready => decided_front(self.held()),
             Phase::Query(_) => true,
             Phase::Ended => false,
         }
@@ -68,7 +77,7 @@ impl Session {
                 self.discard(count);
                 self.start_up(&startup, opening);
             }
-            Decoded::More => self.end_if_over(),
+            Decoded::More => {}
             Decoded::Bad(_place, _why) => self.end_with_not_built(),
             Decoded::Memory => {
                 let count = startup_length(self.held());
@@ -92,7 +101,7 @@ impl Session {
                 self.discard(count);
                 self.message(&front, opening);
             }
-            Decoded::More => self.end_if_over(),
+            Decoded::More => {}
             Decoded::Bad(_place, _why) => self.end_with_not_built(),
             Decoded::Memory => {
                 let count = front_length(self.held());
@@ -150,8 +159,8 @@ impl Session {
         self.begin()?;
         match opening.find(name) {
             Some((number, table)) => {
-                let tag = put_table(self.alloc, opening, number, table, &mut self.output)?;
-                Ok(Phase::Query(tag))
+                let complete = put_table(self.alloc, opening, number, table, &mut self.output)?;
+                Ok(Phase::Query(complete))
             }
             None => {
                 self.transaction = Transaction::Idle;
@@ -165,9 +174,8 @@ impl Session {
     /// The transaction rule: where none is open, one begins, and its snapshot is told.
     fn begin(&mut self) -> Result<(), Memory> {
         if self.transaction == Transaction::Idle {
-            self.output
-                .put(&parameter(self.alloc, b"vdb_snapshot", b"0")?)?;
-            self.transaction = Transaction::Implicit(0);
+            self.output.put(&snapshot_told(self.alloc, EMPTY_LOG)?)?;
+            self.transaction = Transaction::Implicit(EMPTY_LOG);
         }
         Ok(())
     }
@@ -188,9 +196,8 @@ impl Session {
     }
 
     fn put_query_end(&mut self) -> Result<(), Memory> {
-        if let Phase::Query(tag) = &self.phase {
-            let tag = Text::from_slice(self.alloc, tag.as_slice())?;
-            self.output.put(&Back::CommandComplete(tag))?;
+        if let Phase::Query(complete) = &self.phase {
+            self.output.put(complete)?;
         }
         self.output.put(&Back::ReadyForQuery(Status::Idle))
     }
@@ -211,13 +218,6 @@ impl Session {
     fn end(&mut self) {
         self.transaction = Transaction::Idle;
         self.phase = Phase::Ended;
-    }
-
-    /// Where nothing more comes, a packet that isn't whole is dropped.
-    fn end_if_over(&mut self) {
-        if self.is_over {
-            self.end();
-        }
     }
 
     /// The bytes that were fed and not yet taken.

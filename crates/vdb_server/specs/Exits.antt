@@ -90,12 +90,21 @@ IsOpeningExit before name other after = IsReadExit before name other after
 -- the exits of a replay of a file over a catalogue, with their causes
 abbrev pub IsRunExit : Files → List ℕ → List ℕ → Exit → Files → Held → Held → Type 0
 IsRunExit before catalogue stream exit.Done after out out' = IsReadable before catalogue × IsReadable before stream
-IsRunExit before catalogue stream (exit.Catalogue why) after out out' = IsRefusedFile before catalogue why
-IsRunExit before catalogue stream exit.ReadFault after out out' = Rose before.faults after.faults
+IsRunExit before catalogue stream (exit.Catalogue why) after out out' = IsRefusedFile before catalogue why × (out' ≡ out)
+IsRunExit before catalogue stream exit.ReadFault after out out' = Rose before.faults after.faults × (out' ≡ out)
 IsRunExit before catalogue stream exit.WriteFault after out out' = Rose out.faults out'.faults
-IsRunExit before catalogue stream exit.TooLong after out out' = IsLong before.contents catalogue FILE_LIMIT ⊎ IsLong before.contents stream FILE_LIMIT
+IsRunExit before catalogue stream exit.TooLong after out out' =
+    (IsLong before.contents catalogue FILE_LIMIT ⊎ IsLong before.contents stream FILE_LIMIT) × (out' ≡ out)
 IsRunExit before catalogue stream exit.Memory after out out' = Unit {0}
 IsRunExit before catalogue stream _ after out out' = ⊥
+
+-- an exit that comes before the session is opened
+abbrev pub IfUnopened : Exit → Type 0 → Type 0
+IfUnopened exit.Usage fact = fact
+IfUnopened (exit.Catalogue why) fact = fact
+IfUnopened exit.ReadFault fact = fact
+IfUnopened exit.TooLong fact = fact
+IfUnopened _ fact = Unit {0}
 
 -- the exits that the tool has; the others are a server's
 abbrev pub IsToolExit : Exit → Type 0

@@ -4,4 +4,4 @@ use Rattle.vdb_server.specs.Sinks.{Held}
 use Rattle.vdb_server.specs.declared.mem_sink.MemSink.{MemSink}
 
 abbrev pub held_of : MemSink → Held
-held_of s = record { bytes = Some s.bytes.items; faults = s.faults }
+held_of s = record { bytes = Some s.bytes; faults = s.faults }

@@ -1,14 +1,15 @@
 -- How a replay ends.
-use Rattle.std.specs.Prelude.{ℕ, ◌≤◌, Bool, true, false}
+use Rattle.std.specs.Prelude.{ℕ, ◌≤◌, Bool, true, false, List}
+use Rattle.std.specs.Io.KnownBytes.{Appends}
 use Rattle.causes.specs.Faults.{Rose}
 use Rattle.vdb_server.specs.Sinks.{Held}
 use Rattle.vdb_server.specs.declared.exit.Exit.{Exit}
 use Rattle.vdb_server.specs.declared.exit.Exit.TheVariants as exit
 
 -- a whole piece is put, or the sink has failed
-abbrev pub PutsAll : Bool → Held → Held → Type 0
-PutsAll true before after = before.faults ≤ after.faults
-PutsAll false before after = Rose before.faults after.faults
+abbrev pub PutsAll : List ℕ → Bool → Held → Held → Type 0
+PutsAll piece true before after = Appends before.bytes after.bytes piece × (before.faults ≤ after.faults)
+PutsAll piece false before after = Rose before.faults after.faults
 
 -- the exits of a replay, with the cause of a fault
 abbrev pub IsReplayExit : Exit → Held → Held → Type 0

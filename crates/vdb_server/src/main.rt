@@ -16,6 +16,7 @@ mod writer_sink;
 use exit::{Exit, fault_line, status};
 use real_files::RealFiles;
 use std::alloc::AllocError;
+use std::io::ErrorKind;
 use std::process::ExitCode;
 use std::rt::Runtime;
 use std::{env, io, str};
@@ -35,7 +36,9 @@ fn run<R: Runtime + AllocGlobal>(rt: &R) -> Exit {
             Ok(words) => words,
             Err(AllocError) => return Exit::Memory,
         },
-        Err(_error) => return Exit::Memory,
+        // A word that isn't text is none of the program's.
+        Err(error) if error.kind() == ErrorKind::OutOfMemory => return Exit::Memory,
+        Err(_error) => return Exit::Usage,
     };
     let mut files = RealFiles::new(rt);
     let mut out = WriterSink::new(io::writer(rt));

@@ -7,7 +7,7 @@ use std::alloc::Global;
 /// A sink in memory. A piece for which it finds no memory is a fault.
 #[derive(Debug, Drop)]
 pub struct MemSink {
-    bytes: Vec<u8>,
+    bytes: List<u8>,
     failing: List<u64>,
     calls: u64,
     faults: u64,
@@ -17,7 +17,7 @@ impl MemSink {
     /// An empty one. The calls with the numbers in `failing`, counted from 0, fail.
     pub fn new(alloc: Global, failing: List<u64>) -> MemSink {
         MemSink {
-            bytes: Vec::new(alloc),
+            bytes: List::new(alloc),
             failing,
             calls: 0,
             faults: 0,
@@ -25,8 +25,8 @@ impl MemSink {
     }
 
     /// The bytes that were put.
-    pub fn bytes(&self) -> &[u8] {
-        self.bytes.as_slice()
+    pub fn bytes(&self) -> &List<u8> {
+        &self.bytes
     }
 }
 

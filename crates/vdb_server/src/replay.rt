@@ -1,5 +1,5 @@
-ghost use Rattle.std.specs.Prelude.{◌≡◌, ◌≤◌, length, IsTrue, false};
-ghost use Rattle.causes.specs.Faults.{Rose};
+ghost use Rattle.std.specs.Prelude.{◌≡◌, ◌≤◌, [], true, length};
+ghost use Rattle.session_poll.specs.Session.{waiting_of};
 ghost use Rattle.vdb_server.specs.Replays.{IsReplayExit, PutsAll};
 
 use crate::exit::Exit;
@@ -63,7 +63,8 @@ fn feed_on(session: &mut Session, stream: &[u8], fed: usize) -> usize
 
 /// Puts out all that a session has for the client. False: the sink failed.
 fn put_waiting<O: Sink>(session: &mut Session, out: &mut O) -> bool
-    ensures { PutsAll result (O.held out.old) (O.held out.new) }
+    ensures put { PutsAll (waiting_of session.old) result (O.held out.old) (O.held out.new) }
+    ensures taken { result ≡ true → waiting_of session.new ≡ [] }
 {
     let is_put = put_all(session.bytes(), out);
     if is_put {
@@ -73,8 +74,9 @@ fn put_waiting<O: Sink>(session: &mut Session, out: &mut O) -> bool
 }
 
 /// Puts out a whole piece. False: the sink failed.
+#[tactic(auto, using(crate::proofs::Pieces::pieces))]
 fn put_all<O: Sink>(piece: &[u8], out: &mut O) -> bool
-    ensures { PutsAll result (O.held out.old) (O.held out.new) }
+    ensures { PutsAll piece.now result (O.held out.old) (O.held out.new) }
 {
     let mut rest = piece;
     'pieces: while !rest.is_empty() {

@@ -72,7 +72,7 @@ fn replayed(
     let mut out = MemSink::new(alloc, List::from_slice(alloc, failing_puts)?);
     let words = words_of(alloc, &["replay", "c", "s"])?;
     let exit = run_tool(alloc, words.as_slice(), &mut files, &mut out);
-    let bytes = Vec::from_slice(alloc, out.bytes())?;
+    let bytes = Vec::from_slice(alloc, out.bytes().as_slice())?;
     Ok((exit, bytes))
 }
 

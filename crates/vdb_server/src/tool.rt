@@ -2,7 +2,7 @@ ghost use Rattle.std.specs.Prelude.{◌≡◌, ◌≤◌, ◌↔◌, ◌⊎◌, 
 ghost use Rattle.causes.specs.Faults.{Rose};
 ghost use Rattle.causes.specs.Told.{IsContent};
 ghost use Rattle.vdb_server.specs.Sources.{IsLong, Lasts};
-ghost use Rattle.vdb_server.specs.Exits.{is_replay, catalogue_name, stream_name, IsReadable, IsRefusedFile, IfCatalogue, IsReadExit, IsOpeningExit, IsRunExit, IsToolExit};
+ghost use Rattle.vdb_server.specs.Exits.{is_replay, catalogue_name, stream_name, IsReadable, IsRefusedFile, IfCatalogue, IfUnopened, IsReadExit, IsOpeningExit, IsRunExit, IsToolExit};
 ghost use Rattle.vdb_server.specs.declared.exit.Exit.TheVariants as exit;
 
 use crate::exit::{CatalogueFault, Exit};
@@ -34,6 +34,7 @@ pub fn run_tool<F: Source, O: Sink>(
         → IsLong (F.files files.old).contents (catalogue_name (map string_bytes words.now)) FILE_LIMIT
         ⊎ IsLong (F.files files.old).contents (stream_name (map string_bytes words.now)) FILE_LIMIT }
     ensures catalogue { IfCatalogue result (IsRefusedFile (F.files files.old) (catalogue_name (map string_bytes words.now))) }
+    ensures silent { IfUnopened result (O.held out.new ≡ O.held out.old) }
     ensures served { IsToolExit result }
     ensures lasts { Lasts (F.files files.old) (F.files files.new) }
 {

@@ -41,12 +41,10 @@ pub struct OpeningRow {
 
 impl Catalog {
     /// The number of the table with this name. It takes time in the number of tables.
-    pub fn find_table(&self, name: &Name) -> Option<u32> {
-        let place = self
-            .tables
-            .as_slice()
-            .iter()
-            .position(|table| table.name == *name)?;
+    pub fn find_table(&self, name: &Name) -> Option<u32>
+        ensures { length self.now.tables < 2 ^ 32 → result ≡ position (λ table. bytes_eq table.name name.now) self.now.tables }
+    {
+        let place = place_of(self.tables.as_slice(), name)?;
         u32::try_from(place).ok()
     }
 }

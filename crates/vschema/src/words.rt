@@ -1,8 +1,7 @@
-ghost use Rattle.std.specs.Prelude.{◌<◌, length, IsSome, IsTrue, OnOk, OnSome, vec_len};
+ghost use Rattle.std.specs.Prelude.{◌<◌, length, IsSome, IsTrue, OnOk};
 
 use crate::refused::CatalogRefused;
-use feature_expr::{Memory, Name, Reading, TokenKind, is_name_word, is_sign_at, is_word_at};
-use std::alloc::Global;
+use feature_expr::{Name, Reading, TokenKind, is_name_word, is_sign_at, is_word_at};
 
 /// The bytes of a name that stands at a token.
 pub fn name_at<'a>(reading: &Reading<'a>, at: usize) -> Option<&'a [u8]>
@@ -19,21 +18,12 @@ pub fn name_at<'a>(reading: &Reading<'a>, at: usize) -> Option<&'a [u8]>
     }
 }
 
-/// A name of a table or a column: its case doesn't count, so it is kept in lower case.
-pub fn folded(alloc: Global, word: &[u8]) -> Result<Name, Memory> {
-    let mut bytes = Vec::with_capacity(alloc, word.len())?;
-    for byte in word {
-        bytes.push(byte.to_ascii_lowercase())?;
-    }
-    Ok(Name::from_vec(bytes))
-}
-
 /// A name of a table or a column that stands at a token.
 pub fn folded_name_at(reading: &Reading<'_>, at: usize) -> Result<Name, CatalogRefused>
     ensures { OnOk result (at < length reading.now.tokens.now) }
 {
     match name_at(reading, at) {
-        Some(word) => Ok(folded(reading.alloc, word)?),
+        Some(word) => Ok(Name::folded(reading.alloc, word)?),
         None => Err(CatalogRefused::NotRead),
     }
 }
