@@ -9,3 +9,4 @@ mod NegationLaws
 mod PlaceLaws
 mod PrintLaws
 mod QuoteLaws
+mod TextLaws
