@@ -4,6 +4,7 @@ mod ChainLaws
 mod ConfigBits
 mod ExprLaws
 mod FeatureLists
+mod KnownLaws
 mod Machine
 mod NegationLaws
 mod PlaceLaws

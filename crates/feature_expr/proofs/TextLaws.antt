@@ -8,7 +8,7 @@ use Rattle.feature_expr.specs.declared.parse.Sign.TheVariants as sign
 use Rattle.feature_expr.specs.declared.token.Token.{Token}
 use Rattle.feature_expr.specs.Grammar.{Symbol, Terminal, Nonterminal, NeverFirst, IsFree, Leads}
 use Rattle.feature_expr.specs.Tokens.{AreTokens}
-use Rattle.feature_expr.specs.ExprGrammar.{Part, Disjunction, forms, fits, IsRead, IsRefused}
+use Rattle.feature_expr.specs.ExprGrammar.{Part, Disjunction, forms, fits, IsRead, IsRefused, IsFirst}
 use Rattle.feature_expr.specs.ExprTexts.{IsViable, IsFirstFault, IsFault, placed_at, Refusal, IsRefusedText}
 use Rattle.feature_expr.proofs.Machine.{here, open_sign, close_sign}
 
@@ -46,8 +46,8 @@ module _ (names : List (List ℕ)) (text : List ℕ) (tokens : List Token) (most
   pub whole : (end : ℕ) → IsRead text tokens most (Disjunction 0) 0 end → fits text tokens sign.End end → IsViable text tokens most (end + 1)
   whole end read fit = (read most (omega arith)).back (Terminal sign.End ∷ []) (end + 1) (open_sign (forms most) (fits text tokens) sign.End [] end (end + 1) fit (here (forms most) (fits text tokens) [] (end + 1)))
 
-  pub refused_text : (f : Fault) (why : ExprRefused) → AreTokens text tokens → IsFault names text tokens most f → why ≡ placed_at text tokens f → IsRefusedText names text most why
-  refused_text (fault.Syntax at) why are is placed = rw placed (record { tokens = tokens; are_tokens = are; fault = fault.Syntax at; is_fault = is; placed = refl })
-  refused_text (fault.UnknownFeature at) why are is placed = rw placed (record { tokens = tokens; are_tokens = are; fault = fault.UnknownFeature at; is_fault = is; placed = refl })
-  refused_text (fault.TooDeep at) why are is placed = rw placed (record { tokens = tokens; are_tokens = are; fault = fault.TooDeep at; is_fault = is; placed = refl })
-  refused_text fault.Memory why are is placed = rw placed tt
+  pub refused_text : (f : Fault) (why : ExprRefused) → AreTokens text tokens → IsFault names text tokens most f → IsFirst names text tokens 0 f → why ≡ placed_at text tokens f → IsRefusedText names text most why
+  refused_text (fault.Syntax at) why are is first placed = rw placed (record { tokens = tokens; are_tokens = are; fault = fault.Syntax at; is_fault = is; is_first = first; placed = refl })
+  refused_text (fault.UnknownFeature at) why are is first placed = rw placed (record { tokens = tokens; are_tokens = are; fault = fault.UnknownFeature at; is_fault = is; is_first = first; placed = refl })
+  refused_text (fault.TooDeep at) why are is first placed = rw placed (record { tokens = tokens; are_tokens = are; fault = fault.TooDeep at; is_fault = is; is_first = first; placed = refl })
+  refused_text fault.Memory why are is first placed = rw placed tt

@@ -109,6 +109,17 @@ IsRefused names text tokens most part at (fault.UnknownFeature place) =
     Reaches (forms most) (fits text tokens) part at (place + 1) × (sign_at text tokens place ≡ sign.Feature) × (feature_at names text tokens place ≡ None)
 IsRefused names text tokens most part at fault.Memory = Unit {0}
 
+-- every feature that is named from one place up to another is known
+pub record AreKnown (names : List (List ℕ)) (text : List ℕ) (tokens : List Token) (at to : ℕ) : Type 0 where
+  pub known : (k : ℕ) → at ≤ k → k < to → sign_at text tokens k ≡ sign.Feature → feature_at names text tokens k ≡ None → ⊥
+
+-- the fault stands at a token or at the end of the text, and no unknown feature is named before it
+abbrev pub IsFirst : List (List ℕ) → List ℕ → List Token → ℕ → Fault → Type 0
+IsFirst names text tokens at (fault.Syntax place) = (place ≤ length tokens) × AreKnown names text tokens at place
+IsFirst names text tokens at (fault.TooDeep place) = AreKnown names text tokens at place
+IsFirst names text tokens at (fault.UnknownFeature place) = AreKnown names text tokens at place
+IsFirst names text tokens at fault.Memory = Unit {0}
+
 -- what the tokens of a part spell, from one place to another: `or` and `and` group to the left
 pub data Spells (names : List (List ℕ)) (text : List ℕ) (tokens : List Token) : Part → ℕ → Expr → ℕ → Type 0 where
   one_conjunction : (n at end : ℕ) (expr : Expr) → Spells names text tokens (Conjunction n) at expr end → Spells names text tokens (Disjunction n) at expr end

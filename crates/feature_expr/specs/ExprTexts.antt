@@ -2,7 +2,7 @@
 use Rattle.std.specs.Prelude.{◌≡◌, ℕ, ◌+◌, ◌<◌, ◌≤◌, List, [], ◌∷◌, None}
 use Rattle.feature_expr.specs.Grammar.{Terminal, Nonterminal, Matches}
 use Rattle.feature_expr.specs.Tokens.{AreTokens, place_at}
-use Rattle.feature_expr.specs.ExprGrammar.{Disjunction, forms, fits, sign_at, feature_at, Spells}
+use Rattle.feature_expr.specs.ExprGrammar.{Disjunction, forms, fits, sign_at, feature_at, IsFirst, Spells}
 use Rattle.feature_expr.specs.declared.expr.Expr.{Expr}
 use Rattle.feature_expr.specs.declared.parse.ExprRefused.{ExprRefused}
 use Rattle.feature_expr.specs.declared.parse.ExprRefused.TheVariants as refused
@@ -50,6 +50,7 @@ pub record Refusal (names : List (List ℕ)) (text : List ℕ) (most : ℕ) (why
   pub are_tokens : AreTokens text tokens
   pub fault : Fault
   pub is_fault : IsFault names text tokens most fault
+  pub is_first : IsFirst names text tokens 0 fault
   pub placed : why ≡ placed_at text tokens fault
 
 -- the text is refused for its first fault, or memory ran out

@@ -1,7 +1,7 @@
 ghost use Rattle.std.specs.Prelude.{◌≡◌, ℕ, true, false, ◌<◌, ◌≤◌, ◌+◌, length, slice_get, IfOk, IfErr, IsTrue};
 ghost use Rattle.std.specs.Option.{option_copied};
 ghost use Rattle.feature_expr.specs.Tokens.{bytes_of, is_word_at, is_mark_at, place_at, AreTokens};
-ghost use Rattle.feature_expr.specs.ExprGrammar.{Disjunction, Conjunction, Negation, sign_of_kind, sign_of_word, sign_of_mark, sign_at, feature_at, IsToken, IsRead, IsRefused, Spells};
+ghost use Rattle.feature_expr.specs.ExprGrammar.{Disjunction, Conjunction, Negation, sign_of_kind, sign_of_word, sign_of_mark, sign_at, feature_at, IsToken, IsRead, IsRefused, AreKnown, IsFirst, Spells};
 ghost use Rattle.feature_expr.specs.ExprTexts.{IsViable, IsFault, IsText, IsRefusedText, placed_at};
 ghost use Rattle.feature_expr.specs.declared.parse.Fault.TheVariants as fault;
 ghost use Rattle.feature_expr.specs.declared.parse.Sign.TheVariants as sign;
@@ -113,6 +113,7 @@ fn whole_expression(reading: &Reading<'_>) -> Result<(Expr, usize), Fault>
     ensures viable { IfOk result (λ found. IsViable reading.now.text.now reading.now.tokens.now reading.now.max_nesting (found.1 + 1)) }
     ensures spelled { IfOk result (λ found. Spells reading.now.features.now reading.now.text.now reading.now.tokens.now (Disjunction 0) 0 found.0 found.1) }
     ensures refused { IfErr result (IsFault reading.now.features.now reading.now.text.now reading.now.tokens.now reading.now.max_nesting) }
+    ensures first { IfErr result (IsFirst reading.now.features.now reading.now.text.now reading.now.tokens.now 0) }
 {
     let (expr, end) = expression(reading, 0, 0)?;
     if is_sign(reading, end, Sign::End) {
@@ -253,6 +254,8 @@ pub fn expression(reading: &Reading<'_>, nesting: u32, at: usize) -> Result<(Exp
     ensures read { IfOk result (λ found. IsRead reading.now.text.now reading.now.tokens.now reading.now.max_nesting (Disjunction nesting) at found.1) }
     ensures refused { IfErr result (IsRefused reading.now.features.now reading.now.text.now reading.now.tokens.now reading.now.max_nesting (Disjunction nesting) at) }
     ensures spelled { IfOk result (λ found. Spells reading.now.features.now reading.now.text.now reading.now.tokens.now (Disjunction nesting) at found.0 found.1) }
+    ensures known { IfOk result (λ found. AreKnown reading.now.features.now reading.now.text.now reading.now.tokens.now at found.1) }
+    ensures first { IfErr result (IsFirst reading.now.features.now reading.now.text.now reading.now.tokens.now at) }
 {
     let (mut left, mut end) = conjunction(reading, nesting, at)?;
     'links: while is_sign(reading, end, Sign::Or) {
@@ -270,6 +273,8 @@ fn conjunction(reading: &Reading<'_>, nesting: u32, at: usize) -> Result<(Expr, 
     ensures read { IfOk result (λ found. IsRead reading.now.text.now reading.now.tokens.now reading.now.max_nesting (Conjunction nesting) at found.1) }
     ensures refused { IfErr result (IsRefused reading.now.features.now reading.now.text.now reading.now.tokens.now reading.now.max_nesting (Conjunction nesting) at) }
     ensures spelled { IfOk result (λ found. Spells reading.now.features.now reading.now.text.now reading.now.tokens.now (Conjunction nesting) at found.0 found.1) }
+    ensures known { IfOk result (λ found. AreKnown reading.now.features.now reading.now.text.now reading.now.tokens.now at found.1) }
+    ensures first { IfErr result (IsFirst reading.now.features.now reading.now.text.now reading.now.tokens.now at) }
 {
     let (mut left, mut end) = negation(reading, nesting, at)?;
     'links: while is_sign(reading, end, Sign::And) {
@@ -287,6 +292,8 @@ fn negation(reading: &Reading<'_>, nesting: u32, at: usize) -> Result<(Expr, usi
     ensures read { IfOk result (λ found. IsRead reading.now.text.now reading.now.tokens.now reading.now.max_nesting (Negation nesting) at found.1) }
     ensures refused { IfErr result (IsRefused reading.now.features.now reading.now.text.now reading.now.tokens.now reading.now.max_nesting (Negation nesting) at) }
     ensures spelled { IfOk result (λ found. Spells reading.now.features.now reading.now.text.now reading.now.tokens.now (Negation nesting) at found.0 found.1) }
+    ensures known { IfOk result (λ found. AreKnown reading.now.features.now reading.now.text.now reading.now.tokens.now at found.1) }
+    ensures first { IfErr result (IsFirst reading.now.features.now reading.now.text.now reading.now.tokens.now at) }
 {
     match sign_at(reading, at) {
         Sign::Not => {

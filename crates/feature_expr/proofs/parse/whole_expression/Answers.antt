@@ -13,3 +13,8 @@ returns-then-is_sign-clause-viable c = whole c.args.reading.now.features.now c.a
 
 pub returns-else-is_sign-clause-refused : goal.returns-else-is_sign-clause-refused
 returns-else-is_sign-clause-refused c = no_end c.args.reading.now.features.now c.args.reading.now.text.now c.args.reading.now.tokens.now c.args.reading.now.max_nesting c.in_ok-expr.end c.in_ok-expr.ensures.read (c.if-is_sign.ensures.no refl)
+
+pub returns-in_err-expr-clause-first : goal.returns-in_err-expr-clause-first
+returns-in_err-expr-clause-first c =
+    let p = err_from_is_err_and c.from_residual.result c.from_residual.ensures.1 in
+    rw (p.1, p.2) c.in_err-expr.ensures.first
