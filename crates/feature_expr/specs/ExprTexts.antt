@@ -1,8 +1,8 @@
 -- Texts that are expressions, and why others aren't.
-use Rattle.std.specs.Prelude.{◌≡◌, ℕ, ◌+◌, ◌<◌, ◌≤◌, List, [], ◌∷◌, None}
-use Rattle.feature_expr.specs.Grammar.{Terminal, Nonterminal, Matches}
+use Rattle.std.specs.Prelude.{Bool, false, ◌≡◌, ℕ, ◌+◌, ◌<◌, ◌≤◌, List, [], ◌∷◌, None}
+use Rattle.feature_expr.specs.Grammar.{Symbol, Terminal, Nonterminal, Matches}
 use Rattle.feature_expr.specs.Tokens.{AreTokens, place_at}
-use Rattle.feature_expr.specs.ExprGrammar.{Disjunction, forms, fits, sign_at, feature_at, IsFirst, Spells}
+use Rattle.feature_expr.specs.ExprGrammar.{Part, Mark, Own, Disjunction, forms, fits, sign_at, feature_at, IsFirst, Spells}
 use Rattle.feature_expr.specs.declared.expr.Expr.{Expr}
 use Rattle.feature_expr.specs.declared.parse.ExprRefused.{ExprRefused}
 use Rattle.feature_expr.specs.declared.parse.ExprRefused.TheVariants as refused
@@ -11,10 +11,17 @@ use Rattle.feature_expr.specs.declared.parse.Fault.TheVariants as fault
 use Rattle.feature_expr.specs.declared.parse.Sign.TheVariants as sign
 use Rattle.feature_expr.specs.declared.token.Token.{Token}
 
+-- expressions alone: no other grammar stands round them
+abbrev pub alone : ℕ → List (List (Symbol Part Mark))
+alone number = []
+
+abbrev pub none_fits : ℕ → ℕ → Bool
+none_fits number at = false
+
 -- so many tokens begin an expression that nests no deeper than the limit. The end of the text counts as a token, so
 -- that one token more than there are make a whole text.
 abbrev pub IsViable : List ℕ → List Token → ℕ → ℕ → Type 0
-IsViable text tokens limit to = Matches (forms limit) (fits text tokens) (Nonterminal (Disjunction 0) ∷ Terminal sign.End ∷ []) 0 to
+IsViable text tokens limit to = Matches (forms alone limit) (fits none_fits text tokens) (Nonterminal (Disjunction 0) ∷ Terminal (Own sign.End) ∷ []) 0 to
 
 -- the tokens before this one begin an expression, and with it they don't
 pub record IsFirstFault (text : List ℕ) (tokens : List Token) (limit at : ℕ) : Type 0 where

@@ -95,19 +95,19 @@ pub negation-returns-in_ok-make_not-in-Not-clause-spelled : goal.negation-return
 negation-returns-in_ok-make_not-in-Not-clause-spelled t c = rw c.in_ok-make_not-in-Not.ensures (negation c.args.nesting c.args.at c.in_ok-inner-in-Not.end c.in_ok-inner-in-Not.inner (sym c.in-Not.ensures.exact) (rw c.in_ok-nesting-in-Not.ensures.ok.0 at c.in_ok-inner-in-Not.ensures.spelled))
 
 pub negation-returns-in-True-clause-read : goal.negation-returns-in-True-clause-read
-negation-returns-in-True-clause-read t c limit h = leads_true c.args.reading.now.text.now c.args.reading.now.tokens.now limit c.args.nesting c.args.at (sym c.in-True.ensures.exact)
+negation-returns-in-True-clause-read t c outer fitting limit h = leads_true outer fitting c.args.reading.now.text.now c.args.reading.now.tokens.now limit c.args.nesting c.args.at (sym c.in-True.ensures.exact)
 
 pub negation-returns-in-True-clause-spelled : goal.negation-returns-in-True-clause-spelled
 negation-returns-in-True-clause-spelled t c = truth c.args.nesting c.args.at (sym c.in-True.ensures.exact)
 
 pub negation-returns-in-False-clause-read : goal.negation-returns-in-False-clause-read
-negation-returns-in-False-clause-read t c limit h = leads_false c.args.reading.now.text.now c.args.reading.now.tokens.now limit c.args.nesting c.args.at (sym c.in-False.ensures.exact)
+negation-returns-in-False-clause-read t c outer fitting limit h = leads_false outer fitting c.args.reading.now.text.now c.args.reading.now.tokens.now limit c.args.nesting c.args.at (sym c.in-False.ensures.exact)
 
 pub negation-returns-in-False-clause-spelled : goal.negation-returns-in-False-clause-spelled
 negation-returns-in-False-clause-spelled t c = falsehood c.args.nesting c.args.at (sym c.in-False.ensures.exact)
 
 pub negation-returns-in-Some-clause-read : goal.negation-returns-in-Some-clause-read
-negation-returns-in-Some-clause-read t c limit h = leads_feature c.args.reading.now.text.now c.args.reading.now.tokens.now limit c.args.nesting c.args.at (sym c.in-Feature.ensures.exact)
+negation-returns-in-Some-clause-read t c outer fitting limit h = leads_feature outer fitting c.args.reading.now.text.now c.args.reading.now.tokens.now limit c.args.nesting c.args.at (sym c.in-Feature.ensures.exact)
 
 pub negation-returns-in-Some-clause-spelled : goal.negation-returns-in-Some-clause-spelled
 negation-returns-in-Some-clause-spelled t c = feature c.args.nesting c.args.at c.in-Some.feature (sym c.in-Feature.ensures.exact) (sym c.in-Some.ensures)
