@@ -4,7 +4,7 @@ use Rattle.std.proofs.lemmas.Bool.Decides.{nat_tests}
 use Rattle.feature_expr.specs.declared.parse.Sign.{Sign}
 use Rattle.feature_expr.specs.declared.parse.Sign.TheVariants as sign
 use Rattle.feature_expr.specs.declared.token.Token.{Token}
-use Rattle.feature_expr.specs.Grammar.{Symbol, Terminal, Nonterminal, AnyOf, Matches, NeverFirst, IsFree, Leads, Reaches, FaultAt}
+use Rattle.feature_expr.specs.Grammar.{Symbol, Terminal, Nonterminal, AnyOf, Matches, NeverFirst, Leads, Reaches, FaultAt}
 use Rattle.feature_expr.specs.ExprGrammar.{Part, Mark, Own, Disjunction, Negation, nested, forms, sign_at, fits}
 use Rattle.feature_expr.proofs.Machine.{here, open_part, close_part, open_sign, close_sign}
 use Rattle.feature_expr.proofs.ChainForms.{Through}

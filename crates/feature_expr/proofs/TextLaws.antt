@@ -1,15 +1,14 @@
 -- Whole texts.
-use Rattle.std.proofs.Common.{◌≡◌, ℕ, ◌+◌, ◌<◌, ◌≤◌, List, [], ◌∷◌, refl, arith}
+use Rattle.std.proofs.Common.{◌≡◌, ℕ, ◌+◌, List, [], ◌∷◌, refl, arith}
 use Rattle.feature_expr.specs.declared.parse.ExprRefused.{ExprRefused}
 use Rattle.feature_expr.specs.declared.parse.Fault.{Fault}
 use Rattle.feature_expr.specs.declared.parse.Fault.TheVariants as fault
-use Rattle.feature_expr.specs.declared.parse.Sign.{Sign}
 use Rattle.feature_expr.specs.declared.parse.Sign.TheVariants as sign
 use Rattle.feature_expr.specs.declared.token.Token.{Token}
-use Rattle.feature_expr.specs.Grammar.{Symbol, Terminal, Nonterminal, NeverFirst, IsFree, Leads}
+use Rattle.feature_expr.specs.Grammar.{Terminal, NeverFirst, IsFree}
 use Rattle.feature_expr.specs.Tokens.{AreTokens}
-use Rattle.feature_expr.specs.ExprGrammar.{Part, Mark, Own, sign_at, Disjunction, forms, fits, IsRead, IsRefused, IsFirst}
-use Rattle.feature_expr.specs.ExprTexts.{alone, none_fits, IsViable, IsFirstFault, IsFault, placed_at, Refusal, IsRefusedText}
+use Rattle.feature_expr.specs.ExprGrammar.{Own, sign_at, Disjunction, forms, fits, IsRead, IsRefused, IsFirst}
+use Rattle.feature_expr.specs.ExprTexts.{alone, none_fits, IsViable, IsFault, placed_at, IsRefusedText}
 use Rattle.feature_expr.proofs.Machine.{here, open_sign, close_sign}
 
 module _ (names : List (List ℕ)) (text : List ℕ) (tokens : List Token) (most : ℕ) where

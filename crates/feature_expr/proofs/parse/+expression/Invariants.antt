@@ -1,4 +1,4 @@
-use Rattle.std.proofs.Common.{ℕ, ◌+◌, ◌*◌, ◌-◌, ◌<◌, ◌≤◌, [], length}
+use Rattle.std.proofs.Common.{◌+◌, ◌*◌, ◌-◌, ◌<◌, ◌≤◌, [], length}
 use Rattle.feature_expr.specs.ExprGrammar.{Disjunction, MoreOr, Conjunction, MoreAnd, AreKnown, Spells}
 use Rattle.feature_expr.proofs.ExprLaws.{LeadsTo}
 use Rattle.feature_expr.proofs.parse.+expression.Given as goal
