@@ -1,5 +1,5 @@
 -- White space and comments, a step at a time.
-use Rattle.std.proofs.Common.{◌≡◌, ℕ, zero, suc, ◌+◌, ◌==◌, ◌&&◌, Bool, true, false, List, [], ◌∷◌, ◌⊎◌, inl, inr, ◌<◌, ◌≢◌, length, drop, get_or, refl, arith, add-one}
+use Rattle.std.proofs.Common.{◌≡◌, ℕ, zero, suc, ◌+◌, ◌==◌, ◌&&◌, true, false, List, [], ◌∷◌, ◌⊎◌, inl, inr, ◌<◌, ◌≢◌, length, drop, get_or, refl, arith, add-one}
 use Rattle.std.proofs.lemmas.Bool.Decides.{nat_tests}
 use Rattle.feature_expr.specs.Tokens.{is_white, is_comment_part, blanks, comment_at, blank_end, comment_end}
 

@@ -4,8 +4,10 @@ mod ChainLaws
 mod ConfigBits
 mod ExprLaws
 mod FeatureLists
+mod KnownLaws
 mod Machine
 mod NegationLaws
 mod PlaceLaws
 mod PrintLaws
 mod QuoteLaws
+mod TextLaws

@@ -1,6 +1,6 @@
 -- Derivations, a step at a time.
-use Rattle.std.proofs.Common.{◌≡◌, ℕ, zero, suc, ◌+◌, ◌<◌, ◌≤◌, List, [], ◌∷◌, ◌++◌, ◌⊎◌, inl, inr, refl, arith}
-use Rattle.feature_expr.specs.Grammar.{Symbol, Terminal, Nonterminal, AnyOf, MatchesIn, Matches, NeverFirst, IsFree}
+use Rattle.std.proofs.Common.{ℕ, zero, suc, ◌+◌, ◌<◌, List, [], ◌∷◌, ◌++◌, inl, inr, refl, arith}
+use Rattle.feature_expr.specs.Grammar.{Symbol, Terminal, Nonterminal, AnyOf, MatchesIn, Matches}
 
 pub any_in : {X : Type 0} (M : ℕ → X → Type 0) (n : ℕ) (xs : List X) → AnyOf (M n) xs → AnyOf (λ x. (k : ℕ) × M k x) xs
 any_in M n [] none = none

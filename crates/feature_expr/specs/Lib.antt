@@ -2,6 +2,7 @@ pub mod Chains
 pub mod Config
 pub mod ConfigLaws
 pub mod ExprGrammar
+pub mod ExprTexts
 pub mod Expressions
 pub mod Grammar
 pub mod Names

@@ -1,8 +1,10 @@
 ghost use Rattle.std.specs.Prelude.{◌≡◌, ℕ, true, false, ◌<◌, ◌≤◌, ◌+◌, length, slice_get, IfOk, IfErr, IsTrue};
 ghost use Rattle.std.specs.Option.{option_copied};
 ghost use Rattle.feature_expr.specs.Tokens.{bytes_of, is_word_at, is_mark_at, place_at, AreTokens};
-ghost use Rattle.feature_expr.specs.ExprGrammar.{Disjunction, Conjunction, Negation, sign_of_kind, sign_of_word, sign_of_mark, sign_at, feature_at, IsToken, IsRead, IsRefused, Spells};
+ghost use Rattle.feature_expr.specs.ExprGrammar.{Disjunction, Conjunction, Negation, sign_of_kind, sign_of_word, sign_of_mark, sign_at, feature_at, IsToken, IsRead, IsRefused, AreKnown, IsFirst, Spells};
+ghost use Rattle.feature_expr.specs.ExprTexts.{IsViable, IsFault, IsText, IsRefusedText, placed_at};
 ghost use Rattle.feature_expr.specs.declared.parse.Fault.TheVariants as fault;
+ghost use Rattle.feature_expr.specs.declared.parse.Sign.TheVariants as sign;
 
 use crate::expr::{Expr, make_and, make_not, make_or};
 use crate::features::{Features, is_name_word, same_word};
@@ -35,7 +37,9 @@ pub enum Fault {
 
 impl From<Memory> for Fault {
     ghost use Rattle.std.specs.Prelude.{◌≡◌};
+    ghost use Rattle.feature_expr.specs.ExprTexts.{IsViable, IsFault, IsText, IsRefusedText, placed_at};
     ghost use Rattle.feature_expr.specs.declared.parse.Fault.TheVariants as fault;
+    ghost use Rattle.feature_expr.specs.declared.parse.Sign.TheVariants as sign;
 
     ghost from_gives = { λ _ given. given ≡ fault.Memory };
 
@@ -61,7 +65,10 @@ pub fn parse_expr(
     text: &str,
     features: &Features,
     max_nesting: u32,
-) -> Result<Expr, ExprRefused> {
+) -> Result<Expr, ExprRefused>
+    ensures ok { IfOk result (λ expr. IsText features.now text.now max_nesting expr) }
+    ensures err { IfErr result (λ why. IsRefusedText features.now text.now max_nesting why) }
+{
     let tokens = match tokens(alloc, text) {
         Ok(tokens) => tokens,
         Err(Memory) => return Err(ExprRefused::Memory),
@@ -74,12 +81,14 @@ pub fn parse_expr(
         max_nesting,
     };
     match whole_expression(&reading) {
-        Ok(expr) => Ok(expr),
+        Ok((expr, _end)) => Ok(expr),
         Err(fault) => Err(placed(fault, text, tokens.as_slice())),
     }
 }
 
-fn placed(fault: Fault, text: &str, tokens: &[Token]) -> ExprRefused {
+fn placed(fault: Fault, text: &str, tokens: &[Token]) -> ExprRefused
+    ensures { result ≡ placed_at text.now tokens.now fault }
+{
     match fault {
         Fault::Syntax(at) => ExprRefused::Syntax(token_place(text, tokens, at)),
         Fault::UnknownFeature(at) => ExprRefused::UnknownFeature(token_place(text, tokens, at)),
@@ -98,12 +107,20 @@ pub fn token_place(text: &str, tokens: &[Token], at: usize) -> u64
     }
 }
 
-fn whole_expression(reading: &Reading<'_>) -> Result<Expr, Fault> {
+/// The expression that all the tokens spell, and their number.
+fn whole_expression(reading: &Reading<'_>) -> Result<(Expr, usize), Fault>
+    ensures ends { IfOk result (λ found. sign_at reading.now.text.now reading.now.tokens.now found.1 ≡ sign.End) }
+    ensures viable { IfOk result (λ found. IsViable reading.now.text.now reading.now.tokens.now reading.now.max_nesting (found.1 + 1)) }
+    ensures spelled { IfOk result (λ found. Spells reading.now.features.now reading.now.text.now reading.now.tokens.now (Disjunction 0) 0 found.0 found.1) }
+    ensures refused { IfErr result (IsFault reading.now.features.now reading.now.text.now reading.now.tokens.now reading.now.max_nesting) }
+    ensures first { IfErr result (IsFirst reading.now.features.now reading.now.text.now reading.now.tokens.now 0) }
+{
     let (expr, end) = expression(reading, 0, 0)?;
-    if end < reading.tokens.len() {
-        return Err(Fault::Syntax(end));
+    if is_sign(reading, end, Sign::End) {
+        Ok((expr, end))
+    } else {
+        Err(Fault::Syntax(end))
     }
-    Ok(expr)
 }
 
 /// Whether a token is this word, in any case.
@@ -237,6 +254,8 @@ pub fn expression(reading: &Reading<'_>, nesting: u32, at: usize) -> Result<(Exp
     ensures read { IfOk result (λ found. IsRead reading.now.text.now reading.now.tokens.now reading.now.max_nesting (Disjunction nesting) at found.1) }
     ensures refused { IfErr result (IsRefused reading.now.features.now reading.now.text.now reading.now.tokens.now reading.now.max_nesting (Disjunction nesting) at) }
     ensures spelled { IfOk result (λ found. Spells reading.now.features.now reading.now.text.now reading.now.tokens.now (Disjunction nesting) at found.0 found.1) }
+    ensures known { IfOk result (λ found. AreKnown reading.now.features.now reading.now.text.now reading.now.tokens.now at found.1) }
+    ensures first { IfErr result (IsFirst reading.now.features.now reading.now.text.now reading.now.tokens.now at) }
 {
     let (mut left, mut end) = conjunction(reading, nesting, at)?;
     'links: while is_sign(reading, end, Sign::Or) {
@@ -254,6 +273,8 @@ fn conjunction(reading: &Reading<'_>, nesting: u32, at: usize) -> Result<(Expr, 
     ensures read { IfOk result (λ found. IsRead reading.now.text.now reading.now.tokens.now reading.now.max_nesting (Conjunction nesting) at found.1) }
     ensures refused { IfErr result (IsRefused reading.now.features.now reading.now.text.now reading.now.tokens.now reading.now.max_nesting (Conjunction nesting) at) }
     ensures spelled { IfOk result (λ found. Spells reading.now.features.now reading.now.text.now reading.now.tokens.now (Conjunction nesting) at found.0 found.1) }
+    ensures known { IfOk result (λ found. AreKnown reading.now.features.now reading.now.text.now reading.now.tokens.now at found.1) }
+    ensures first { IfErr result (IsFirst reading.now.features.now reading.now.text.now reading.now.tokens.now at) }
 {
     let (mut left, mut end) = negation(reading, nesting, at)?;
     'links: while is_sign(reading, end, Sign::And) {
@@ -271,6 +292,8 @@ fn negation(reading: &Reading<'_>, nesting: u32, at: usize) -> Result<(Expr, usi
     ensures read { IfOk result (λ found. IsRead reading.now.text.now reading.now.tokens.now reading.now.max_nesting (Negation nesting) at found.1) }
     ensures refused { IfErr result (IsRefused reading.now.features.now reading.now.text.now reading.now.tokens.now reading.now.max_nesting (Negation nesting) at) }
     ensures spelled { IfOk result (λ found. Spells reading.now.features.now reading.now.text.now reading.now.tokens.now (Negation nesting) at found.0 found.1) }
+    ensures known { IfOk result (λ found. AreKnown reading.now.features.now reading.now.text.now reading.now.tokens.now at found.1) }
+    ensures first { IfErr result (IsFirst reading.now.features.now reading.now.text.now reading.now.tokens.now at) }
 {
     match sign_at(reading, at) {
         Sign::Not => {

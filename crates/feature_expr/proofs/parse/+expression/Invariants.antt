@@ -1,5 +1,5 @@
-use Rattle.std.proofs.Common.{ℕ, ◌+◌, ◌*◌, ◌-◌, ◌<◌, ◌≤◌, [], length}
-use Rattle.feature_expr.specs.ExprGrammar.{Disjunction, MoreOr, Conjunction, MoreAnd, Spells}
+use Rattle.std.proofs.Common.{◌+◌, ◌*◌, ◌-◌, ◌<◌, ◌≤◌, [], length}
+use Rattle.feature_expr.specs.ExprGrammar.{Disjunction, MoreOr, Conjunction, MoreAnd, AreKnown, Spells}
 use Rattle.feature_expr.proofs.ExprLaws.{LeadsTo}
 use Rattle.feature_expr.proofs.parse.+expression.Given as goal
 
@@ -19,6 +19,7 @@ invariant-expression-links l = record {
   within : l.end ≤ length l.reading.tokens.now;
   links : LeadsTo l.reading.text.now l.reading.tokens.now l.reading.max_nesting (Disjunction l.nesting) l.at (MoreOr l.nesting) l.end [];
   spelled : Spells l.reading.features.now l.reading.text.now l.reading.tokens.now (Disjunction l.nesting) l.at l.left l.end;
+  known : AreKnown l.reading.features.now l.reading.text.now l.reading.tokens.now l.at l.end;
 }
 
 abbrev pub decreases-expression-links : goal.decreases-expression-links
@@ -30,6 +31,7 @@ invariant-conjunction-links l = record {
   within : l.end ≤ length l.reading.tokens.now;
   links : LeadsTo l.reading.text.now l.reading.tokens.now l.reading.max_nesting (Conjunction l.nesting) l.at (MoreAnd l.nesting) l.end [];
   spelled : Spells l.reading.features.now l.reading.text.now l.reading.tokens.now (Conjunction l.nesting) l.at l.left l.end;
+  known : AreKnown l.reading.features.now l.reading.text.now l.reading.tokens.now l.at l.end;
 }
 
 abbrev pub decreases-conjunction-links : goal.decreases-conjunction-links

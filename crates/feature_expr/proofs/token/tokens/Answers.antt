@@ -1,6 +1,5 @@
 use Rattle.std.proofs.Common.{◌≡◌, length, [], arith}
 use Rattle.std.proofs.lemmas.List.{append-nil}
-use Rattle.feature_expr.specs.Tokens.{AreTokens}
 use Rattle.feature_expr.proofs.token.tokens.Goals as goal
 
 pub returns : goal.returns

@@ -1,4 +1,4 @@
-use Rattle.std.proofs.Common.{◌≡◌, ◌≢◌, ◌<◌, length, get_or, arith, ap, ◌∙◌, sym}
+use Rattle.std.proofs.Common.{◌≡◌, ◌≢◌, get_or, arith, ◌∙◌}
 use Rattle.feature_expr.proofs.QuoteLaws.{unquoted_quote, unquoted_other, unquoted_step}
 use Rattle.feature_expr.proofs.token.unquoted.Goals as goal
 
