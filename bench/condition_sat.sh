@@ -3,8 +3,9 @@
 #
 # It prints the median and the worst of 200 random questions, by weight and number of features: of expressions of
 # any shape, and of clauses of three literals each, four clauses a feature, where about half of the questions have
-# no answer and a search is at its worst. Then the time of 10,000 conditions of weight 1 to 3 under a model of 10
-# features, for `find` and `always` together.
+# no answer and a search is at its worst. Then the time of a conjunction and a disjunction of 40 features without a
+# model, of chains of a million of them, and of 10,000 conditions of weight 1 to 3 under a model of 10 features, for
+# `find` and `always` together.
 set -eu
 top=$(cd "$(dirname "$0")/.." && pwd)
 work=$(mktemp -d)
@@ -180,6 +181,32 @@ fn many_small(rt: &HostRuntime, model: &Model, conditions: &[Expr]) -> io::Resul
     println!(rt; "10,000 conditions of weight 1 to 3: {took} ns for find and always, {held} yes")
 }
 
+fn chain(alloc: Global, links: u32, conjunction: bool) -> Result<Expr, Memory> {
+    let mut chain = Expr::Feature(0);
+    for link in 1..links {
+        let next = Expr::Feature((link % 40) as u8);
+        chain = if conjunction { and(alloc, chain, next)? } else { or(alloc, chain, next)? };
+    }
+    Ok(chain)
+}
+
+/// Forty features without a model, and chains of them.
+fn free_features(rt: &HostRuntime, free: &Model) -> io::Result<()> {
+    for links in [40u32, 1_000_000] {
+        let Ok(all) = chain(rt.alloc(), links, true) else {
+            return Ok(());
+        };
+        let Ok(some) = chain(rt.alloc(), links, false) else {
+            return Ok(());
+        };
+        let conjunction = time_of_find(rt, free, &all)?;
+        let disjunction = time_of_find(rt, free, &some)?;
+        println!(rt; "40 free features, {links} links: conjunction {conjunction} ns, disjunction {disjunction} ns")?;
+    }
+    let anything = time_of_find(rt, free, &Expr::True)?;
+    println!(rt; "40 free features, true: {anything} ns")
+}
+
 fn main(rt: HostRuntime) -> io::Result<()> {
     let Ok(free) = Model::new(rt.alloc(), Expr::True) else {
         return Ok(());
@@ -192,6 +219,7 @@ fn main(rt: HostRuntime) -> io::Result<()> {
     for (features, count) in [(10u8, 40u16), (15, 60), (20, 80), (25, 100), (30, 120)] {
         many(&rt, &free, features, count, true)?;
     }
+    free_features(&rt, &free)?;
     let mut numbers = Numbers(3);
     let Ok(conditions) = small_conditions(rt.alloc(), &mut numbers) else {
         return Ok(());
@@ -203,4 +231,5 @@ fn main(rt: HostRuntime) -> io::Result<()> {
 }
 PROGRAM
 cd "$work/crates/speed"
-rt run
+rt run > "$work/log" 2>&1 || { cat "$work/log" >&2; exit 1; }
+sed '1,/^rt: running/d' "$work/log"

@@ -17,7 +17,7 @@ use std::marker;
 ///
 /// Most questions are answered by a few sample configurations, in the time of evaluating the expressions asked
 /// about. The others are searched, in a time that may grow with the number of combinations of the features that
-/// occur. `Memory` is answered where memory runs out.
+/// occur. Neither takes memory: `Memory` stands in the answers for a search that does.
 #[derive(Drop)]
 pub struct Model {
     expr: Expr,
