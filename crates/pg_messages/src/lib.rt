@@ -31,3 +31,6 @@ pub use laws::{back_laws, front_laws, startup_laws};
 pub use startup::{Pair, STARTUP_LIMIT, Startup};
 pub use startup_reading::{decided_startup, decode_startup};
 pub use startup_writing::encode_startup;
+
+#[cfg(test)]
+mod tests;
