@@ -52,7 +52,7 @@ pub const RESERVED: [&[u8]; 28] = [
 pub enum FeaturesRefused {
     #[error("{0} features, more than 64")]
     TooMany(u64),
-    #[error("feature {0} has no name")]
+    #[error("the name of feature {0} isn't one")]
     NotAName(u64),
     #[error("feature {0} stood before")]
     Duplicate(u64),

@@ -1,11 +1,14 @@
+use crate::column_name::ColName;
 use crate::config::Config;
-use crate::expr::{copy_expr, eval, weight};
+use crate::expr::{Expr, and, copy_expr, eval, not, or, weight};
 use crate::features::Features;
 use crate::list::List;
+use crate::memory::TryCopy;
 use crate::parse::{ExprRefused, parse_expr};
 use crate::print::print_expr;
-use crate::text::Name;
+use crate::text::{Name, Text};
 use crate::token::{TokenKind, end_line, end_place, tokens};
+use crate::value::Value;
 use std::alloc::Global;
 use std::process::Abort;
 use std::test::Fail;
@@ -359,5 +362,73 @@ fn a_chain_of_a_million_takes_no_stack(rt: HostRuntime) -> Result<(), Fail> {
         let printed = print_expr(alloc, &copied, &features)?;
         assert!(rt; printed.as_slice() == text.as_bytes());
     }
+    Ok(())
+}
+
+/// A column's name behind a prefix.
+fn prefixed(alloc: Global) -> Result<ColName, Fail> {
+    let prefix = Some(Name::from_slice(alloc, b"e")?);
+    let base = Name::folded(alloc, b"Pay")?;
+    Ok(ColName { prefix, base })
+}
+
+/// The texts of `A` and the other connectives over `A` and `B`.
+fn connected(alloc: Global) -> Result<String, Fail> {
+    let features = features(alloc)?;
+    let mut text = String::new(alloc);
+    let both = and(alloc, Expr::Feature(0), Expr::Feature(1))?;
+    let either = or(alloc, copy_expr(alloc, &both)?, Expr::Feature(0))?;
+    let neither = not(alloc, either.copy(alloc)?)?;
+    for expr in [both, either, neither] {
+        let printed = print_expr(alloc, &expr, &features)?;
+        text.push_str(std::str::from_utf8(printed.as_slice())?)?;
+        text.push_str("; ")?;
+    }
+    Ok(text)
+}
+
+#[test]
+fn a_copied_value_is_equal(rt: HostRuntime) -> Result<(), Fail> {
+    let text = Text::from_slice(rt.alloc(), b"it's")?;
+    let value = Value::Text(text.copy(rt.alloc())?);
+    assert_eq!(rt; value.copy(rt.alloc())?, Value::Text(text));
+    let column = prefixed(rt.alloc())?;
+    assert_eq!(rt; column.copy(rt.alloc())?, column);
+    assert_eq!(rt; column.base.as_slice(), b"pay".as_slice());
+    Ok(())
+}
+
+#[test]
+fn copied_features_and_tokens_are_all_there(rt: HostRuntime) -> Result<(), Fail> {
+    let names = features(rt.alloc())?.copy(rt.alloc())?;
+    assert_eq!(rt; names.count(), 2);
+    let found = tokens(rt.alloc(), "x 'y'")?.copy(rt.alloc())?;
+    assert_eq!(rt; found.len(), 2);
+    Ok(())
+}
+
+#[test]
+fn connectives_are_made(rt: HostRuntime) -> Result<(), Fail> {
+    let text = connected(rt.alloc())?;
+    assert_eq!(rt;
+        text.as_str(),
+        "A and B; A and B or A; not (A and B or A); "
+    );
+    Ok(())
+}
+
+#[test]
+fn what_is_added_stands_at_the_end(rt: HostRuntime) -> Result<(), Fail> {
+    let mut list = List::from_slice(rt.alloc(), &[1u8, 2])?;
+    list.extend_from_slice(&[3, 4])?;
+    assert!(rt; list.push(5).is_ok());
+    assert_eq!(rt; list.as_slice(), [1, 2, 3, 4, 5].as_slice());
+    assert_eq!(rt; list.pop(), Some(5));
+    let mut name = Name::new(rt.alloc());
+    assert!(rt; name.push(b'a').is_ok());
+    assert_eq!(rt; name.as_slice(), b"a".as_slice());
+    let mut text = Text::new(rt.alloc());
+    assert!(rt; text.push(b'b').is_ok());
+    assert_eq!(rt; text.as_slice(), b"b".as_slice());
     Ok(())
 }

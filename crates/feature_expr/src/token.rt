@@ -6,7 +6,7 @@ ghost use Rattle.feature_expr.specs.Tokens.{is_white, is_comment_part, comment_a
 
 use crate::features::{is_word_part, is_word_start};
 use crate::list::List;
-use crate::memory::Memory;
+use crate::memory::{Memory, TryCopy};
 use crate::text::Text;
 use std::alloc::Global;
 
@@ -44,6 +44,35 @@ impl Token {
         let end = self.end.min(text.len());
         let start = self.start.min(end);
         &text[start..end]
+    }
+}
+
+impl TryCopy for TokenKind {
+    fn copy(&self, alloc: Global) -> Result<Self, Memory> {
+        match self {
+            TokenKind::Word => Ok(TokenKind::Word),
+            TokenKind::Integer(number) => Ok(TokenKind::Integer(*number)),
+            TokenKind::Text(text) => {
+                let text = text.copy(alloc)?;
+                Ok(TokenKind::Text(text))
+            }
+            TokenKind::Param(number) => Ok(TokenKind::Param(*number)),
+            TokenKind::Sign => Ok(TokenKind::Sign),
+            TokenKind::Bad => Ok(TokenKind::Bad),
+        }
+    }
+}
+
+impl TryCopy for Token {
+    fn copy(&self, alloc: Global) -> Result<Self, Memory> {
+        let kind = self.kind.copy(alloc)?;
+        Ok(Token {
+            kind,
+            start: self.start,
+            end: self.end,
+            place: self.place,
+            line: self.line,
+        })
     }
 }
 

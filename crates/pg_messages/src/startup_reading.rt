@@ -9,7 +9,7 @@ use crate::decoded::{Decoded, Why};
 use crate::fields::{Fault, read_string};
 use crate::packet::{Head, decoded};
 use crate::startup::{Pair, STARTUP_CODE, STARTUP_LIMIT, Startup, StartupKind};
-use feature_expr::{List, Memory, Text};
+use feature_expr::{List, Text};
 use std::alloc::Global;
 
 /// The bytes before a start-up packet's fields: its length and its code.

@@ -1,5 +1,5 @@
 -- What a sink of bytes means, and what it does with a piece.
-use Rattle.std.specs.Prelude.{◌≡◌, ℕ, ◌<◌, ◌≤◌, List, Option, length, take}
+use Rattle.std.specs.Prelude.{ℕ, ◌<◌, ◌≤◌, List, Option, length, take}
 use Rattle.std.specs.Io.KnownBytes.{Appends, Keeps}
 use Rattle.causes.specs.Faults.{Rose}
 use Rattle.vdb_server.specs.declared.sink.SinkPut.{SinkPut}
