@@ -3,8 +3,8 @@ use Rattle.std.specs.Prelude.{ℕ, List}
 use Rattle.vschema.specs.declared.refused.CatalogRefused.{CatalogRefused}
 use Rattle.vschema.specs.declared.refused.CatalogRefused.TheVariants as refused
 
--- The reader refused these bytes. Which texts those are isn't said yet, so the definition is kept shut: only the
--- reader's own clause gives this fact, and nobody else can claim it.
+-- The reader refused these bytes. Which texts those are isn't said yet, so no proof but the reader's own opens this
+-- definition: whoever cites it has the fact from the reader.
 unfoldable pub IsRefused : List ℕ → Type 0
 IsRefused bytes = Unit {0}
 

@@ -75,7 +75,7 @@ const READ: [&str; 12] = [
     "FEATURES A , B ;",
     "features true_, _a1;",
     "-- a comment\nfeatures A; -- another",
-    "features A; table t (a int8); table T2 (a text, b bool);",
+    "features A; table t (a int8); table U2 (a text, b bool);",
     "features A; table Emp (Id int8); row EMP (ID -1);",
     "features A; table t (a bool, b text); row t (b 'it''s', a TRUE);",
     "features A; table t (a int8); row t (a 9223372036854775807); row t (a -9223372036854775808);",
