@@ -1,11 +1,9 @@
 mod BlankLaws
-mod ChainForms
 mod ChainLaws
 mod ConfigBits
 mod ExprLaws
 mod FeatureLists
 mod KnownLaws
-mod Machine
 mod NegationLaws
 mod PlaceLaws
 mod PrintLaws

@@ -1,3 +1,4 @@
+pub mod ChainForms
 pub mod Chains
 pub mod Config
 pub mod ConfigLaws
@@ -5,6 +6,7 @@ pub mod ExprGrammar
 pub mod ExprTexts
 pub mod Expressions
 pub mod Grammar
+pub mod GrammarLaws
 pub mod Names
 pub mod Printing
 pub mod Rests

@@ -1,7 +1,7 @@
 -- Parts that lead to other parts, and chains `item { sign item }`.
 use Rattle.std.proofs.Common.{◌≡◌, ℕ, ◌+◌, ◌<◌, ◌≤◌, List, [], ◌∷◌, ◌++◌, ◌⊎◌, inl, inr, arith}
 use Rattle.feature_expr.specs.Grammar.{Symbol, Terminal, Nonterminal, AnyOf, Matches, NeverFirst, IsFree, Leads, Reaches, FaultAt}
-use Rattle.feature_expr.proofs.Machine.{open_part, close_part, open_sign, close_sign}
+use Rattle.feature_expr.specs.GrammarLaws.{open_part, close_part, open_sign, close_sign}
 
 -- a part that begins at a place leads to another part further on, with `rest` open behind it
 pub record Through {P S : Type 0} (forms : P → List (List (Symbol P S))) (fits : S → ℕ → Type 0) (signs : List S) (part : P) (at : ℕ) (signs' : List S) (part' : P) (at' : ℕ) (rest : List (Symbol P S)) : Type 0 where
