@@ -1,0 +1,9 @@
+//! The answer to one question in every variant at once, as one table: the rows and columns under the conditions
+//! that say in which variants they are there.
+#![tactic(auto)]
+
+mod plain;
+mod table;
+
+pub use plain::{Plain, PlainColumn};
+pub use table::{VColumn, VRow, VTable};
