@@ -23,6 +23,19 @@ IfWhole decoded.More P = Unit {0}
 IfWhole (decoded.Bad place cause) P = Unit {0}
 IfWhole decoded.Memory P = Unit {0}
 
+-- A want of memory in reading shows this.
+abbrev pub IfMemory : {T : Type 0} → Decoded T → Type 0 → Type 0
+IfMemory (decoded.Whole packet length) shown = Unit {0}
+IfMemory decoded.More shown = Unit {0}
+IfMemory (decoded.Bad place cause) shown = Unit {0}
+IfMemory decoded.Memory shown = shown
+
+-- the number of bytes of a packet that is all there
+abbrev pub length_of : {K : Type 0} → Head K → Option ℕ
+length_of head.More = None
+length_of (head.Bad place cause) = None
+length_of (head.Packet kind n) = Some n
+
 -- the packet's number of bytes is between these two
 abbrev pub IsWithin : {K : Type 0} → ℕ → ℕ → Head K → Type 0
 IsWithin least most head.More = Unit {0}

@@ -1,7 +1,7 @@
-ghost use Rattle.std.specs.Prelude.{◌≡◌, ℕ, ◌≤◌, List, ◌++◌, length, take, not};
+ghost use Rattle.std.specs.Prelude.{◌≡◌, ℕ, ◌≤◌, true, List, ◌++◌, length, take, not, is_some, IfSome};
 ghost use Rattle.pg_messages.specs.declared.front.Front.{Front};
 ghost use Rattle.pg_messages.specs.Fields.{Gives};
-ghost use Rattle.pg_messages.specs.Packet.{Answers, IfWhole, IsWithin, is_more};
+ghost use Rattle.pg_messages.specs.Packet.{Answers, IfWhole, IfMemory, IsWithin, is_more, length_of};
 ghost use Rattle.pg_messages.specs.FrontReading.{front_kind, front_head, front_fields, front_body, front_of};
 ghost use Rattle.pg_messages.specs.FrontSpelling.{IsFront};
 
@@ -20,13 +20,16 @@ pub fn decode_front(alloc: Global, bytes: &[u8]) -> Decoded<Front>
     ensures read { (m : Front) (packet rest : List ℕ) → IsFront m packet → bytes.now ≡ packet ++ rest → Answers result (Decoded.Whole m (length packet)) }
     // Where no message is read: its faults in their order, and their places.
     ensures exact { Answers result (front_of bytes.now) }
+    // Memory is taken for a packet that is all there.
+    ensures memory { IfMemory result (is_some (length_of (front_head bytes.now)) ≡ true) }
 {
     front_at(alloc, bytes)
 }
 
 #[tactic(auto, unfolding(crate::specs::FrontReading::front_of), using(crate::proofs::Packets::answers_decoded))]
 fn front_at(alloc: Global, bytes: &[u8]) -> Decoded<Front>
-    ensures { Answers result (front_of bytes.now) }
+    ensures exact { Answers result (front_of bytes.now) }
+    ensures memory { IfMemory result (is_some (length_of (front_head bytes.now)) ≡ true) }
 {
     match read_front_head(bytes) {
         Head::More => Decoded::More,
@@ -45,6 +48,18 @@ pub fn decided_front(bytes: &[u8]) -> bool
     ensures { result ≡ not (is_more (front_of bytes.now)) }
 {
     !matches!(read_front_head(bytes), Head::More)
+}
+
+/// How many bytes the message at the front of the bytes has, where all of them are there. Takes no memory.
+pub fn front_length(bytes: &[u8]) -> Option<usize>
+    ensures exact { result ≡ length_of (front_head bytes.now) }
+    ensures within { IfSome result (λ n. n ≤ length bytes.now) }
+{
+    match read_front_head(bytes) {
+        Head::Packet(_, length) => Some(length),
+        Head::More => None,
+        Head::Bad(_, _) => None,
+    }
 }
 
 #[tactic(auto, unfolding(crate::specs::FrontReading::front_head))]

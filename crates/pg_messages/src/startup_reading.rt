@@ -1,7 +1,7 @@
-ghost use Rattle.std.specs.Prelude.{◌≡◌, ℕ, ◌≤◌, List, ◌++◌, length, take, not};
+ghost use Rattle.std.specs.Prelude.{◌≡◌, ℕ, ◌≤◌, true, List, ◌++◌, length, take, not, is_some, IfSome};
 ghost use Rattle.pg_messages.specs.declared.startup.Startup.{Startup};
 ghost use Rattle.pg_messages.specs.Fields.{Gives, until_end};
-ghost use Rattle.pg_messages.specs.Packet.{Answers, IfWhole, IsWithin, is_more};
+ghost use Rattle.pg_messages.specs.Packet.{Answers, IfWhole, IfMemory, IsWithin, is_more, length_of};
 ghost use Rattle.pg_messages.specs.StartupReading.{startup_kind, has_length, coded_head, startup_head, next_pair, startup_fields, startup_of};
 ghost use Rattle.pg_messages.specs.StartupSpelling.{IsStartup};
 
@@ -24,13 +24,16 @@ pub fn decode_startup(alloc: Global, bytes: &[u8]) -> Decoded<Startup>
     ensures read { (m : Startup) (packet rest : List ℕ) → IsStartup m packet → bytes.now ≡ packet ++ rest → Answers result (Decoded.Whole m (length packet)) }
     // Where no packet is read: its faults in their order, and their places.
     ensures exact { Answers result (startup_of bytes.now) }
+    // Memory is taken for a packet that is all there.
+    ensures memory { IfMemory result (is_some (length_of (startup_head bytes.now)) ≡ true) }
 {
     startup_at(alloc, bytes)
 }
 
 #[tactic(auto, unfolding(crate::specs::StartupReading::startup_of), using(crate::proofs::Packets::answers_decoded))]
 fn startup_at(alloc: Global, bytes: &[u8]) -> Decoded<Startup>
-    ensures { Answers result (startup_of bytes.now) }
+    ensures exact { Answers result (startup_of bytes.now) }
+    ensures memory { IfMemory result (is_some (length_of (startup_head bytes.now)) ≡ true) }
 {
     match read_startup_head(bytes) {
         Head::More => Decoded::More,
@@ -49,6 +52,18 @@ pub fn decided_startup(bytes: &[u8]) -> bool
     ensures { result ≡ not (is_more (startup_of bytes.now)) }
 {
     !matches!(read_startup_head(bytes), Head::More)
+}
+
+/// How many bytes the start-up packet at the front of the bytes has, where all of them are there. Takes no memory.
+pub fn startup_length(bytes: &[u8]) -> Option<usize>
+    ensures exact { result ≡ length_of (startup_head bytes.now) }
+    ensures within { IfSome result (λ n. n ≤ length bytes.now) }
+{
+    match read_startup_head(bytes) {
+        Head::Packet(_, length) => Some(length),
+        Head::More => None,
+        Head::Bad(_, _) => None,
+    }
 }
 
 #[tactic(auto, unfolding(crate::specs::StartupReading::startup_head))]

@@ -1,9 +1,17 @@
--- What a session shows: the bytes that it was fed and has not taken, and those that wait to be sent.
-use Rattle.std.specs.Prelude.{ℕ, List}
+-- What a session shows: its state, the bytes that it was fed and has not taken, those that wait to be sent, and whether
+-- the input has ended.
+use Rattle.std.specs.Prelude.{ℕ, Bool, List}
 use Rattle.session_poll.specs.declared.session.Session.{Session}
+use Rattle.session_poll.specs.State.{State}
+
+abbrev pub state_of : Session → State
+state_of session = record { phase = session.phase; transaction = session.transaction }
 
 abbrev pub held_of : Session → List ℕ
 held_of session = session.inbox
 
 abbrev pub waiting_of : Session → List ℕ
-waiting_of session = session.output
+waiting_of session = session.output.bytes
+
+abbrev pub is_over : Session → Bool
+is_over session = session.is_over

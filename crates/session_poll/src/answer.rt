@@ -1,51 +1,153 @@
-//! The answer to a bare table: its columns, and each of its rows under its condition.
+//! How an answer is spelled: its columns, and each of its rows under its condition.
 
-use crate::opening::Opening;
+ghost use Rattle.std.specs.Prelude.{◌≡◌, ◌++◌, [], ◌∷◌, map, length, true, take, drop, IfOk, OnOk, OnErr};
+ghost use Rattle.session_poll.specs.AnswerMessages.{name_text, when_text, field_of, column_field, when_field, value_text, cell_text, select_tag, select_complete};
+ghost use Rattle.session_poll.specs.AnswerMessages as spelling;
+ghost use Rattle.session_poll.specs.Output.{Begins};
+ghost use Rattle.session_poll.specs.Replies.{spelled};
+
 use crate::output::Output;
-use feature_expr::{Features, Kind, List, Memory, Text, TryCopy, Value, print_expr};
+use feature_expr::{ColName, Expr, Features, Kind, List, Memory, Text, TryCopy, Value, print_expr};
 use itoa::Buffer;
 use pg_messages::{Back, Field};
 use std::alloc::Global;
-use vschema::{Column, OpeningRow, Table};
+use vtable::{VColumn, VRow, VTable};
 
-/// Puts the description and the rows of a table, and answers the CommandComplete that is to follow them.
-pub fn put_table(
+/// Puts the description of an answer and its rows, all of them or none.
+pub fn put_answer(
     alloc: Global,
-    opening: &Opening,
-    number: u32,
-    table: &Table,
+    answer: &VTable,
+    features: &Features,
     output: &mut Output,
-) -> Result<Back, Memory> {
-    output.put(&description(alloc, table.columns.as_slice())?)?;
-    let mut count: u64 = 0;
-    for row in opening.rows.as_slice() {
-        if row.table == number {
-            output.put(&data_row(alloc, row, &opening.catalog.features)?)?;
-            count = count.saturating_add(1);
-        }
+) -> Result<(), Memory>
+    requires { output.old.is_ready ≡ true }
+    ensures ok { OnOk result (output.new.bytes ≡ output.old.bytes ++ spelled (spelling.answer_messages features.now answer.now)) }
+    ensures err { OnErr result (output.new.bytes ≡ output.old.bytes) }
+    ensures ready { output.new.is_ready ≡ true }
+{
+    let before = output.len();
+    let put = put_messages(alloc, answer, features, output);
+    if put.is_err() {
+        output.truncate(before);
     }
-    Ok(Back::CommandComplete(select_tag(alloc, count)?))
+    put
+}
+
+#[tactic(auto, using(crate::proofs::OutputLaws::begins_same, crate::proofs::OutputLaws::begins_as, crate::proofs::OutputLaws::begins_put, crate::proofs::OutputLaws::put_more))]
+fn put_messages(
+    alloc: Global,
+    answer: &VTable,
+    features: &Features,
+    output: &mut Output,
+) -> Result<(), Memory>
+    requires { output.old.is_ready ≡ true }
+    ensures ok { OnOk result (output.new.bytes ≡ output.old.bytes ++ spelled (spelling.answer_messages features.now answer.now)) }
+    ensures begins { Begins output.old.bytes output.new.bytes }
+    ensures ready { output.new.is_ready ≡ true }
+{
+    let description = describe(alloc, answer.columns.as_slice(), features)?;
+    output.put(&description)?;
+    put_rows(alloc, answer.rows.as_slice(), features, output)
+}
+
+#[tactic(auto, using(crate::proofs::OutputLaws::begins_same, crate::proofs::OutputLaws::begins_as, crate::proofs::OutputLaws::begins_put, crate::proofs::OutputLaws::put_more))]
+fn put_rows(
+    alloc: Global,
+    rows: &[VRow],
+    features: &Features,
+    output: &mut Output,
+) -> Result<(), Memory>
+    requires { output.old.is_ready ≡ true }
+    ensures ok { OnOk result (output.new.bytes ≡ output.old.bytes ++ spelled (map (spelling.data_row features.now) rows.now)) }
+    ensures begins { Begins output.old.bytes output.new.bytes }
+    ensures ready { output.new.is_ready ≡ true }
+{
+    'rows: for row in rows {
+        put_row(alloc, row, features, output)?;
+    }
+    Ok(())
+}
+
+fn put_row(
+    alloc: Global,
+    row: &VRow,
+    features: &Features,
+    output: &mut Output,
+) -> Result<(), Memory>
+    requires { output.old.is_ready ≡ true }
+    ensures ok { OnOk result (output.new.bytes ≡ output.old.bytes ++ spelled (spelling.data_row features.now row.now ∷ [])) }
+    ensures err { OnErr result (output.new.bytes ≡ output.old.bytes) }
+    ensures ready { output.new.is_ready ≡ true }
+{
+    let message = data_row(alloc, row, features)?;
+    output.put(&message)
 }
 
 /// A field for each column, and last the field `when`, which holds each row's condition.
-fn description(alloc: Global, columns: &[Column]) -> Result<Back, Memory> {
-    let mut fields = Vec::new(alloc);
-    for column in columns {
-        let name = Text::from_slice(alloc, column.name.as_slice())?;
+fn describe(alloc: Global, columns: &[VColumn], features: &Features) -> Result<Back, Memory>
+    ensures { IfOk result (λ it. it ≡ spelling.description features.now columns.now) }
+{
+    let mut fields = Vec::with_capacity(alloc, columns.len())?;
+    'columns: for column in columns {
+        let name = field_name(alloc, column, features)?;
         fields.push(field(name, column.kind))?;
     }
-    let name = Text::from_slice(alloc, b"when")?;
-    fields.push(field(name, Kind::Text))?;
+    fields.push(field(Text::from_slice(alloc, b"when")?, Kind::Text))?;
     Ok(Back::RowDescription(List::from_vec(fields)))
 }
 
+/// A column's name, and its condition where it isn't always there.
+fn field_name(alloc: Global, column: &VColumn, features: &Features) -> Result<Text, Memory>
+    ensures { IfOk result (λ it. it ≡ name_text column.now.name ++ when_text features.now column.now.cond) }
+{
+    let mut text = Vec::new(alloc);
+    push_name(&column.name, &mut text)?;
+    push_when(alloc, &column.cond, features, &mut text)?;
+    Ok(Text::from_vec(text))
+}
+
+fn push_name(name: &ColName, text: &mut Vec<u8>) -> Result<(), Memory>
+    ensures { OnOk result (text.new.items ≡ text.old.items ++ name_text name.now) }
+{
+    if let Some(prefix) = &name.prefix {
+        text.extend_from_slice(prefix.as_slice())?;
+        text.push(b'.')?;
+    }
+    text.extend_from_slice(name.base.as_slice())?;
+    Ok(())
+}
+
+fn push_when(
+    alloc: Global,
+    cond: &Expr,
+    features: &Features,
+    text: &mut Vec<u8>,
+) -> Result<(), Memory>
+    ensures { OnOk result (text.new.items ≡ text.old.items ++ when_text features.now cond.now) }
+{
+    if matches!(cond, Expr::True) {
+        return Ok(());
+    }
+    let printed = print_expr(alloc, cond, features)?;
+    text.extend_from_slice(b" when ")?;
+    text.extend_from_slice(printed.as_slice())?;
+    Ok(())
+}
+
 /// A field in text form, with the type number and the size that PostgreSQL's catalogue gives its kind.
-fn field(name: Text, kind: Kind) -> Field {
-    let (kind_number, size) = match kind {
-        Kind::Bool => (16, 1),
-        Kind::Int => (20, 8),
-        Kind::Text => (25, -1),
-    };
+fn field(name: Text, kind: Kind) -> Field
+    ensures { result ≡ field_of name kind }
+{
+    match kind {
+        Kind::Bool => sized_field(name, 16, 1),
+        Kind::Int => sized_field(name, 20, 8),
+        Kind::Text => sized_field(name, 25, -1),
+    }
+}
+
+fn sized_field(name: Text, kind_number: u32, size: i16) -> Field
+    ensures { result ≡ record { name = name; kind_number = kind_number; size = size; format = 0 } }
+{
     Field {
         name,
         kind_number,
@@ -54,28 +156,38 @@ fn field(name: Text, kind: Kind) -> Field {
     }
 }
 
-fn data_row(alloc: Global, row: &OpeningRow, features: &Features) -> Result<Back, Memory> {
-    let mut cells = Vec::new(alloc);
-    for cell in row.cells.as_slice() {
+fn data_row(alloc: Global, row: &VRow, features: &Features) -> Result<Back, Memory>
+    ensures { IfOk result (λ it. it ≡ spelling.data_row features.now row.now) }
+{
+    let mut cells = Vec::with_capacity(alloc, row.cells.len())?;
+    'cells: for cell in row.cells.as_slice() {
         cells.push(cell_text(alloc, cell)?)?;
     }
     cells.push(Some(print_expr(alloc, &row.cond, features)?))?;
     Ok(Back::DataRow(List::from_vec(cells)))
 }
 
-fn cell_text(alloc: Global, cell: &Option<Value>) -> Result<Option<Text>, Memory> {
+fn cell_text(alloc: Global, cell: &Option<Value>) -> Result<Option<Text>, Memory>
+    ensures { IfOk result (λ it. it ≡ cell_text cell.now) }
+{
     match cell {
-        Some(value) => Ok(Some(value_text(alloc, value)?)),
+        Some(value) => {
+            let text = value_text(alloc, value)?;
+            Ok(Some(text))
+        }
         None => Ok(None),
     }
 }
 
 /// A value in text form.
-fn value_text(alloc: Global, value: &Value) -> Result<Text, Memory> {
+fn value_text(alloc: Global, value: &Value) -> Result<Text, Memory>
+    ensures { IfOk result (λ it. it ≡ value_text value.now) }
+{
     match value {
         Value::Int(number) => {
             let mut buffer = Buffer::new();
-            Text::from_slice(alloc, buffer.format(*number).as_bytes())
+            let digits = buffer.format(*number);
+            Text::from_slice(alloc, digits.as_bytes())
         }
         Value::Text(text) => text.copy(alloc),
         Value::Bool(true) => Text::from_slice(alloc, b"t"),
@@ -83,7 +195,17 @@ fn value_text(alloc: Global, value: &Value) -> Result<Text, Memory> {
     }
 }
 
-fn select_tag(alloc: Global, count: u64) -> Result<Text, Memory> {
+/// The message that ends an answer: how many rows it has.
+pub fn select_complete(alloc: Global, answer: &VTable) -> Result<Back, Memory>
+    ensures { IfOk result (λ it. it ≡ select_complete answer.now) }
+{
+    let tag = select_tag(alloc, answer.rows.len())?;
+    Ok(Back::CommandComplete(tag))
+}
+
+fn select_tag(alloc: Global, count: usize) -> Result<Text, Memory>
+    ensures { IfOk result (λ it. it ≡ select_tag count) }
+{
     let mut buffer = Buffer::new();
     let mut tag = Vec::from_slice(alloc, b"SELECT ")?;
     tag.extend_from_slice(buffer.format(count).as_bytes())?;

@@ -4,6 +4,10 @@
 pub const OUT_OF_MEMORY: &[u8] =
     b"E\x00\x00\x00\x29SERROR\x00VERROR\x00C53200\x00Mout of memory\x00\x00";
 
+/// The same, and a ReadyForQuery outside of a transaction block behind it.
+pub const OUT_OF_MEMORY_AND_READY: &[u8] =
+    b"E\x00\x00\x00\x29SERROR\x00VERROR\x00C53200\x00Mout of memory\x00\x00Z\x00\x00\x00\x05I";
+
 /// An ErrorResponse with the code 0A000 and the text `not built yet`. The session ends with it.
 pub const NOT_BUILT: &[u8] =
     b"E\x00\x00\x00\x29SFATAL\x00VFATAL\x00C0A000\x00Mnot built yet\x00\x00";

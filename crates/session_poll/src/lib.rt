@@ -2,18 +2,24 @@
 #![tactic(auto)]
 
 mod answer;
+mod begin;
 mod fixed;
 mod inbox;
 mod opening;
 mod output;
-mod packet;
+mod poll;
 mod polled;
+mod queries;
 mod query;
+mod refusal;
 mod replies;
+mod scan;
 mod session;
+mod standing;
+mod start;
 mod start_up;
 mod state;
-mod step;
+mod tables;
 #[cfg(test)]
 mod tests;
 

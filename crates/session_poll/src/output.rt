@@ -1,5 +1,8 @@
-ghost use Rattle.std.specs.Prelude.{◌≡◌, ◌≤◌, [], ◌++◌, length, take, drop, IfOk, OnOk, OnErr};
+ghost use Rattle.std.specs.Prelude.{◌≡◌, ◌≤◌, ◌+◌, true, false, [], ◌++◌, length, take, drop, vec_len, vec_capacity, IfOk, OnOk, OnErr};
 ghost use Rattle.pg_messages.specs.BackSpelling.{back_bytes};
+ghost use Rattle.session_poll.specs.Replies.{spelled};
+ghost use Rattle.session_poll.specs.Output.{Begins, is_empty};
+ghost use Rattle.session_poll.specs.declared.output.TheConstants.{FIXED_SIZE};
 
 use feature_expr::Memory;
 use pg_messages::{Back, encode_back};
@@ -9,43 +12,52 @@ use std::marker::Model;
 /// How many bytes a reply of fixed bytes takes at most.
 pub const FIXED_SIZE: usize = 64;
 
-/// The bytes that wait to be sent. The list grows as it has to, and room for a reply of fixed bytes is taken before a
-/// step, so that want of memory in it can be told.
+/// The bytes that wait to be sent. The list grows as it has to. Room for a reply of fixed bytes is taken before a
+/// step and kept in it, so that want of memory can always be told.
 #[derive(Drop)]
 pub struct Output {
     bytes: Vec<u8>,
     start: usize,
+    is_ready: bool,
+    message: Vec<u8>,
 }
 
 impl Model for Output {
-    ghost use Rattle.std.specs.Prelude.{ℕ, ◌≤◌, List, drop, vec_len};
-    ghost use Rattle.std.specs.Coded.{coded_list, coded_ℕ};
+    ghost use Rattle.std.specs.Prelude.{ℕ, ◌≡◌, ◌≤◌, ◌<◌, ◌+◌, true, false, List, drop, vec_len, vec_capacity};
+    ghost use Rattle.session_poll.specs.Output.{Waiting};
+    ghost use Rattle.session_poll.specs.declared.output.TheConstants.{FIXED_SIZE};
 
-    ghost Value = { List ℕ };
+    ghost Value = { Waiting };
 
-    ghost coded = { coded_list coded_ℕ };
+    ghost view = { λ it. record { bytes = drop it.start it.bytes.items; is_ready = it.is_ready } };
 
-    ghost view = { λ it. drop it.start it.bytes.items };
-
-    ghost invariant = { λ it. it.start ≤ vec_len it.bytes };
+    ghost invariant = { λ it. (it.start ≤ vec_len it.bytes) × (FIXED_SIZE ≤ vec_capacity it.bytes)
+        × (it.is_ready ≡ true → vec_len it.bytes + FIXED_SIZE ≤ vec_capacity it.bytes)
+        × (it.is_ready ≡ false → it.start < vec_len it.bytes) };
 }
 
 impl Output {
     pub fn new(alloc: Global) -> Result<Output, Memory>
-        ensures { IfOk result (λ output. output ≡ []) }
+        ensures bytes { IfOk result (λ output. output.bytes ≡ []) }
+        ensures ready { IfOk result (λ output. output.is_ready ≡ true) }
     {
         let bytes = Vec::with_capacity(alloc, FIXED_SIZE)?;
-        Ok(Output { bytes, start: 0 })
+        Ok(Output {
+            bytes,
+            start: 0,
+            is_ready: true,
+            message: Vec::new(alloc),
+        })
     }
 
     pub fn len(&self) -> usize
-        ensures { result ≡ length self.now }
+        ensures { result ≡ length self.now.bytes }
     {
         self.bytes.len() - self.start
     }
 
     pub fn bytes(&self) -> &[u8]
-        ensures { result.now ≡ self.now }
+        ensures { result.now ≡ self.now.bytes }
     {
         let (_, waiting) = self.bytes.as_slice().split_at(self.start);
         waiting
@@ -53,51 +65,109 @@ impl Output {
 
     /// Drops the first bytes, which were sent.
     pub fn take(&mut self, count: usize)
-        requires { count ≤ length self.old }
-        ensures { self.new ≡ drop count self.old }
+        requires { count ≤ length self.old.bytes }
+        ensures { self.new.bytes ≡ drop count self.old.bytes }
     {
         self.start += count;
         if self.start == self.bytes.len() {
             self.bytes.clear();
             self.start = 0;
+            self.is_ready = true;
+        }
+    }
+
+    /// Whether a reply of fixed bytes can be put without memory. It can where nothing waits.
+    #[tactic(auto, using(crate::proofs::OutputLaws::drop_not_empty))]
+    pub fn is_ready(&self) -> bool
+        ensures exact { result ≡ self.now.is_ready }
+        ensures waits { result ≡ false → is_empty self.now.bytes ≡ false }
+    {
+        self.is_ready
+    }
+
+    /// Takes memory for a reply of fixed bytes, where there is some.
+    pub fn make_room(&mut self)
+        ensures bytes { self.new.bytes ≡ self.old.bytes }
+        ensures ready { self.old.is_ready ≡ true → self.new.is_ready ≡ true }
+    {
+        if !self.is_ready && self.bytes.reserve(FIXED_SIZE).is_ok() {
+            self.is_ready = true;
+        }
+    }
+
+    /// Puts a reply of fixed bytes. It takes no memory, and what comes next may find no room.
+    pub fn put_fixed(&mut self, bytes: &[u8])
+        requires ready { self.old.is_ready ≡ true }
+        requires fits { length bytes.now ≤ FIXED_SIZE }
+        requires some { is_empty bytes.now ≡ false }
+        ensures { self.new.bytes ≡ self.old.bytes ++ bytes.now }
+    {
+        let _fits = self.bytes.extend_from_slice(bytes);
+        self.is_ready = false;
+    }
+
+    /// Puts a message behind the bytes that wait. Memory is the one reason for which a session's message isn't put.
+    pub fn put(&mut self, back: &Back) -> Result<(), Memory>
+        requires { self.old.is_ready ≡ true }
+        ensures ok { OnOk result (self.new.bytes ≡ self.old.bytes ++ back_bytes back.now) }
+        ensures err { OnErr result (self.new.bytes ≡ self.old.bytes) }
+        ensures ready { self.new.is_ready ≡ true }
+    {
+        self.message.clear();
+        match encode_back(back, &mut self.message) {
+            Ok(()) => append(&mut self.bytes, self.message.as_slice()),
+            Err(_refused) => Err(Memory),
         }
     }
 
     /// Keeps the first bytes alone.
     pub fn truncate(&mut self, count: usize)
-        requires { count ≤ length self.old }
-        ensures { self.new ≡ take count self.old }
+        requires ready { self.old.is_ready ≡ true }
+        requires within { count ≤ length self.old.bytes }
+        ensures bytes { self.new.bytes ≡ take count self.old.bytes }
+        ensures ready { self.new.is_ready ≡ true }
     {
         self.bytes.truncate(self.start + count);
     }
 
-    /// Whether a reply of fixed bytes fits without memory.
-    pub fn has_room(&self) -> bool {
-        self.bytes.capacity() - self.bytes.len() >= FIXED_SIZE
-    }
-
-    /// Takes memory for a reply of fixed bytes, where there is some. Where nothing waits, there is room already.
-    pub fn make_room(&mut self)
-        ensures { self.new ≡ self.old }
+    /// Puts messages one behind the other, all of them or none.
+    pub fn put_all(&mut self, messages: &[Back]) -> Result<(), Memory>
+        requires { self.old.is_ready ≡ true }
+        ensures ok { OnOk result (self.new.bytes ≡ self.old.bytes ++ spelled messages.now) }
+        ensures err { OnErr result (self.new.bytes ≡ self.old.bytes) }
+        ensures ready { self.new.is_ready ≡ true }
     {
-        if !self.has_room() {
-            let _made = self.bytes.reserve(FIXED_SIZE);
+        let before = self.len();
+        let put = self.put_each(messages);
+        if put.is_err() {
+            self.truncate(before);
         }
+        put
     }
 
-    /// Puts a reply of fixed bytes. It takes no memory where there is room.
-    pub fn put_fixed(&mut self, bytes: &[u8]) {
-        let _fits = self.bytes.extend_from_slice(bytes);
-    }
-
-    /// Puts a message behind the bytes that wait. Memory is the one reason for which a session's message isn't put.
-    pub fn put(&mut self, back: &Back) -> Result<(), Memory>
-        ensures ok { OnOk result (self.new ≡ self.old ++ back_bytes back.now) }
-        ensures err { OnErr result (self.new ≡ self.old) }
+    #[tactic(auto, using(crate::proofs::OutputLaws::begins_same, crate::proofs::OutputLaws::begins_as, crate::proofs::OutputLaws::begins_put, crate::proofs::OutputLaws::put_more))]
+    fn put_each(&mut self, messages: &[Back]) -> Result<(), Memory>
+        requires { self.old.is_ready ≡ true }
+        ensures ok { OnOk result (self.new.bytes ≡ self.old.bytes ++ spelled messages.now) }
+        ensures begins { Begins self.old.bytes self.new.bytes }
+        ensures ready { self.new.is_ready ≡ true }
     {
-        match encode_back(back, &mut self.bytes) {
-            Ok(()) => Ok(()),
-            Err(_refused) => Err(Memory),
+        'messages: for message in messages {
+            self.put(message)?;
         }
+        Ok(())
     }
+}
+
+/// Appends bytes and keeps room for a reply of fixed bytes behind them, or leaves all as it was.
+fn append(bytes: &mut Vec<u8>, more: &[u8]) -> Result<(), Memory>
+    requires { vec_len bytes.old + FIXED_SIZE ≤ vec_capacity bytes.old }
+    ensures ok { OnOk result (bytes.new.items ≡ bytes.old.items ++ more.now) }
+    ensures err { OnErr result (bytes.new.items ≡ bytes.old.items) }
+    ensures room { vec_len bytes.new + FIXED_SIZE ≤ vec_capacity bytes.new }
+    ensures capacity { vec_capacity bytes.old ≤ vec_capacity bytes.new }
+{
+    bytes.reserve(more.len() + FIXED_SIZE)?;
+    let _fits = bytes.extend_from_slice(more);
+    Ok(())
 }

@@ -1,43 +1,83 @@
 //! The messages that a session sends, as values.
 
+ghost use Rattle.std.specs.Prelude.{◌≡◌, ◌++◌, [], ◌∷◌, codes, IfOk};
+ghost use Rattle.pg_messages.specs.declared.back.Back.TheVariants as back;
+ghost use Rattle.session_poll.specs.Replies.{error_of, field};
+ghost use Rattle.session_poll.specs.Replies as told;
+
+use crate::refusal::Refusal;
 use feature_expr::{List, Memory, Name, Text};
 use itoa::Buffer;
 use pg_messages::{Back, ErrorField};
 use std::alloc::Global;
 
 /// A parameter's value, told to the client.
-pub fn parameter(alloc: Global, name: &[u8], value: &[u8]) -> Result<Back, Memory> {
+pub fn parameter(alloc: Global, name: &[u8], value: &[u8]) -> Result<Back, Memory>
+    ensures { IfOk result (λ it. it ≡ back.ParameterStatus name.now value.now) }
+{
     let name = Text::from_slice(alloc, name)?;
     let value = Text::from_slice(alloc, value)?;
     Ok(Back::ParameterStatus(name, value))
 }
 
 /// The snapshot of a transaction, told to the client.
-pub fn snapshot_told(alloc: Global, snapshot: u64) -> Result<Back, Memory> {
+pub fn snapshot_told(alloc: Global, snapshot: u64) -> Result<Back, Memory>
+    ensures { IfOk result (λ it. it ≡ told.snapshot_told snapshot) }
+{
     let mut buffer = Buffer::new();
-    parameter(alloc, b"vdb_snapshot", buffer.format(snapshot).as_bytes())
+    let digits = buffer.format(snapshot);
+    let message = parameter(alloc, b"vdb_snapshot", digits.as_bytes())?;
+    Ok(message)
 }
 
-/// The error on a table that the catalogue doesn't have.
-pub fn unknown_table(alloc: Global, name: &Name) -> Result<Back, Memory> {
+/// The error of a refusal, with its SQLSTATE, of the PostgreSQL manual's appendix on error codes.
+pub fn error(alloc: Global, why: &Refusal) -> Result<Back, Memory>
+    ensures { IfOk result (λ it. it ≡ error_of why.now) }
+{
+    match why {
+        Refusal::NotBuilt => fatal(alloc, b"0A000", b"not built yet"),
+        Refusal::UnknownTable(name) => unknown_table(alloc, name),
+        Refusal::OutOfMemory => refused(alloc, b"53200", b"out of memory"),
+    }
+}
+
+fn unknown_table(alloc: Global, name: &Name) -> Result<Back, Memory>
+    ensures { IfOk result (λ it. it ≡ told.error (codes "ERROR") (codes "42P01") (codes "table " ++ name.now ++ codes " is not known")) }
+{
     let mut text = Vec::from_slice(alloc, b"table ")?;
     text.extend_from_slice(name.as_slice())?;
     text.extend_from_slice(b" is not known")?;
-    error(alloc, b"42P01", Text::from_vec(text))
+    let message = refused(alloc, b"42P01", text.as_slice())?;
+    Ok(message)
 }
 
-/// An error with its SQLSTATE, of the PostgreSQL manual's appendix on error codes. The severity stands in it twice,
-/// once for clients that translate it.
-fn error(alloc: Global, code: &[u8], text: Text) -> Result<Back, Memory> {
-    let mut fields = Vec::new(alloc);
-    fields.push(error_field(alloc, b'S', b"ERROR")?)?;
-    fields.push(error_field(alloc, b'V', b"ERROR")?)?;
+fn refused(alloc: Global, code: &[u8], text: &[u8]) -> Result<Back, Memory>
+    ensures { IfOk result (λ it. it ≡ told.error (codes "ERROR") code.now text.now) }
+{
+    error_with(alloc, b"ERROR", code, text)
+}
+
+fn fatal(alloc: Global, code: &[u8], text: &[u8]) -> Result<Back, Memory>
+    ensures { IfOk result (λ it. it ≡ told.error (codes "FATAL") code.now text.now) }
+{
+    error_with(alloc, b"FATAL", code, text)
+}
+
+/// An error. The severity stands in it twice, once for clients that translate it.
+fn error_with(alloc: Global, severity: &[u8], code: &[u8], text: &[u8]) -> Result<Back, Memory>
+    ensures { IfOk result (λ it. it ≡ told.error severity.now code.now text.now) }
+{
+    let mut fields = Vec::with_capacity(alloc, 4)?;
+    fields.push(error_field(alloc, b'S', severity)?)?;
+    fields.push(error_field(alloc, b'V', severity)?)?;
     fields.push(error_field(alloc, b'C', code)?)?;
-    fields.push(ErrorField { code: b'M', text })?;
+    fields.push(error_field(alloc, b'M', text)?)?;
     Ok(Back::ErrorResponse(List::from_vec(fields)))
 }
 
-fn error_field(alloc: Global, code: u8, text: &[u8]) -> Result<ErrorField, Memory> {
+fn error_field(alloc: Global, code: u8, text: &[u8]) -> Result<ErrorField, Memory>
+    ensures { IfOk result (λ it. it ≡ field code text.now) }
+{
     let text = Text::from_slice(alloc, text)?;
     Ok(ErrorField { code, text })
 }

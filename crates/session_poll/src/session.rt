@@ -1,4 +1,4 @@
-ghost use Rattle.std.specs.Prelude.{◌≡◌, ◌+◌, ◌-◌, [], ◌++◌, length, take, drop, min, IfOk};
+ghost use Rattle.std.specs.Prelude.{◌≡◌, ◌+◌, ◌-◌, true, false, [], ◌++◌, length, take, drop, min, IfOk};
 ghost use Rattle.session_poll.specs.declared.inbox.TheConstants.{INBOX_SIZE};
 
 use crate::inbox::Inbox;
@@ -20,12 +20,19 @@ pub struct Session {
 }
 
 impl Session {
-    ghost use Rattle.session_poll.specs.Session.{held_of, waiting_of};
+    ghost use Rattle.std.specs.Prelude.{ℕ, List};
+    ghost use Rattle.session_poll.specs.Runs.{Did, IsAt};
+    ghost use Rattle.session_poll.specs.Session.{held_of, waiting_of, is_over};
+    ghost use Rattle.session_poll.specs.declared.opening.Opening.{Opening};
 
     /// A session that has taken nothing yet, with the memory for its inbox.
+    #[tactic(auto, using(crate::proofs::SessionLaws::at_start))]
     pub fn open(alloc: Global) -> Result<Session, Memory>
         ensures waiting { IfOk result (λ session. waiting_of session ≡ []) }
         ensures held { IfOk result (λ session. held_of session ≡ []) }
+        ensures over { IfOk result (λ session. is_over session ≡ false) }
+        // It stands at the end of the empty run.
+        ensures at { IfOk result (λ session. (opening : Opening) → IsAt opening [] [] [] session) }
     {
         let inbox = Inbox::new(alloc)?;
         let output = Output::new(alloc)?;
@@ -47,18 +54,25 @@ impl Session {
     }
 
     /// Takes the first bytes that fit, and answers how many. It takes no memory.
+    #[tactic(auto, using(crate::proofs::SessionLaws::at_fed))]
     pub fn feed(&mut self, bytes: &[u8]) -> usize
         ensures count { result ≡ min (length bytes.now) (INBOX_SIZE - length (held_of self.old)) }
         ensures held { held_of self.new ≡ held_of self.old ++ take result bytes.now }
         ensures waiting { waiting_of self.new ≡ waiting_of self.old }
+        ensures over { is_over self.new ≡ is_over self.old }
+        // Each run goes on, with these bytes fed.
+        ensures at { (opening : Opening) (fed taken : List ℕ) (run : List Did) → IsAt opening fed taken run self.old → IsAt opening (fed ++ take result bytes.now) taken run self.new }
     {
         self.inbox.feed(bytes)
     }
 
     /// Says that nothing more comes.
+    #[tactic(auto, using(crate::proofs::SessionLaws::at_ended))]
     pub fn end_input(&mut self)
         ensures waiting { waiting_of self.new ≡ waiting_of self.old }
         ensures held { held_of self.new ≡ held_of self.old }
+        ensures over { is_over self.new ≡ true }
+        ensures at { (opening : Opening) (fed taken : List ℕ) (run : List Did) → IsAt opening fed taken run self.old → IsAt opening fed taken run self.new }
     {
         self.is_over = true;
     }
@@ -78,9 +92,13 @@ impl Session {
     }
 
     /// Drops the first bytes that wait, which were sent.
+    #[tactic(auto, using(crate::proofs::SessionLaws::at_taken))]
     pub fn take(&mut self, count: usize)
         ensures waiting { waiting_of self.new ≡ drop (min count (length (waiting_of self.old))) (waiting_of self.old) }
         ensures held { held_of self.new ≡ held_of self.old }
+        ensures over { is_over self.new ≡ is_over self.old }
+        // Each run goes on, with these bytes taken.
+        ensures at { (opening : Opening) (fed taken : List ℕ) (run : List Did) → IsAt opening fed taken run self.old → IsAt opening fed (taken ++ take count (waiting_of self.old)) run self.new }
     {
         let count = count.min(self.output.len());
         self.output.take(count);

@@ -1,74 +1,122 @@
 //! The start-up rule: which start-up message is taken, and what it is answered.
 
+ghost use Rattle.std.specs.Prelude.{◌≡◌, ◌++◌, [], ◌∷◌, map, drop, take, codes, length, Option, Some, None, not, ◌&&◌, ◌==◌, ◌<◌, if◌then◌else◌, OnOk, IfOk, IfSome, IfNone};
+ghost use Rattle.std.specs.List.{list_any, flat_map};
+ghost use Rattle.std.specs.Option.{option_map};
+ghost use Rattle.session_poll.specs.StartUps.{is_taken, is_refused_name, is_not_empty, value_of, value_in, later_or, listed, piece, fixed_parameters, welcome};
+
 use crate::opening::Opening;
-use crate::output::Output;
 use crate::replies::parameter;
-use feature_expr::{Features, Memory, print_expr};
+use feature_expr::{Features, List, Memory, print_expr};
 use pg_messages::{Back, Pair, Startup, Status};
 use std::alloc::Global;
 
-/// The parameters that are the same for every catalogue, in the order in which they are told.
-const PARAMETERS: [(&[u8], &[u8]); 6] = [
-    (b"server_version", b"14.0"),
-    (b"server_encoding", b"UTF8"),
-    (b"client_encoding", b"UTF8"),
-    (b"DateStyle", b"ISO, MDY"),
-    (b"integer_datetimes", b"on"),
-    (b"standard_conforming_strings", b"on"),
-];
-
 /// Whether a start-up packet is taken: it names a user, and neither an option of a later protocol nor replication.
-pub fn is_taken(startup: &Startup) -> bool {
+pub fn is_taken(startup: &Startup) -> bool
+    ensures { result ≡ is_taken startup.now }
+{
     match startup {
         Startup::Start(pairs) => {
             let pairs = pairs.as_slice();
-            !pairs
-                .iter()
-                .any(|pair| is_refused_name(pair.name.as_slice()))
-                && names_user(pairs)
+            !has_refused_name(pairs) && names_user(pairs)
         }
         Startup::Other(_) => false,
     }
 }
 
-fn is_refused_name(name: &[u8]) -> bool {
+fn has_refused_name(pairs: &[Pair]) -> bool
+    ensures { result ≡ list_any is_refused_name pairs.now }
+{
+    pairs.iter().any(|pair| is_refused_name(pair))
+}
+
+fn is_refused_name(pair: &Pair) -> bool
+    ensures { result ≡ is_refused_name pair.now }
+{
+    let name = pair.name.as_slice();
     name.starts_with(b"_pq_.") || name == b"replication".as_slice()
 }
 
-/// Whether there is a user whose name isn't empty. Of a name that comes again the last value counts.
-fn names_user(pairs: &[Pair]) -> bool {
-    let mut is_named = false;
-    for pair in pairs {
-        if pair.name.as_slice() == b"user".as_slice() {
-            is_named = !pair.value.is_empty();
-        }
+/// Whether there is a user whose name isn't empty. Of a parameter that comes again the last value counts.
+fn names_user(pairs: &[Pair]) -> bool
+    ensures { result ≡ is_not_empty (value_of (codes "user") pairs.now) }
+{
+    match last_value(b"user", pairs) {
+        Some(value) => !value.is_empty(),
+        None => false,
     }
-    is_named
 }
 
-/// Puts the reply to a start-up message that is taken.
-pub fn put_welcome(alloc: Global, opening: &Opening, output: &mut Output) -> Result<(), Memory> {
-    output.put(&Back::AuthenticationOk)?;
-    for (name, value) in PARAMETERS {
-        output.put(&parameter(alloc, name, value)?)?;
+#[tactic(auto, using(crate::proofs::StartTextLaws::last_same, crate::proofs::StartTextLaws::last_new))]
+fn last_value<'a>(name: &[u8], pairs: &'a [Pair]) -> Option<&'a [u8]>
+    ensures { option_map (λ value. value.now) result ≡ value_of name.now pairs.now }
+{
+    let mut found = None;
+    'pairs: for pair in pairs {
+        if pair.name.as_slice() == name {
+            found = Some(pair.value.as_slice());
+        }
     }
+    found
+}
+
+/// The reply to a start-up message that is taken.
+pub fn welcome(alloc: Global, opening: &Opening) -> Result<List<Back>, Memory>
+    ensures { IfOk result (λ it. it ≡ welcome opening.now) }
+{
+    let mut messages = fixed_parameters(alloc)?;
     let features = &opening.catalog.features;
     let names = feature_names(alloc, features)?;
-    output.put(&parameter(alloc, b"vdb_features", names.as_slice())?)?;
+    messages.push(parameter(alloc, b"vdb_features", names.as_slice())?)?;
     let model = print_expr(alloc, &opening.catalog.model, features)?;
-    output.put(&parameter(alloc, b"vdb_model", model.as_slice())?)?;
-    output.put(&Back::BackendKeyData(1, 0))?;
-    output.put(&Back::ReadyForQuery(Status::Idle))
+    messages.push(parameter(alloc, b"vdb_model", model.as_slice())?)?;
+    messages.push(Back::BackendKeyData(1, 0))?;
+    messages.push(Back::ReadyForQuery(Status::Idle))?;
+    Ok(List::from_vec(messages))
+}
+
+/// What is told alike over each catalogue.
+fn fixed_parameters(alloc: Global) -> Result<Vec<Back>, Memory>
+    ensures { IfOk result (λ it. it.items ≡ fixed_parameters) }
+{
+    let mut messages = Vec::with_capacity(alloc, 11)?;
+    messages.push(Back::AuthenticationOk)?;
+    messages.push(parameter(alloc, b"server_version", b"14.0")?)?;
+    messages.push(parameter(alloc, b"server_encoding", b"UTF8")?)?;
+    messages.push(parameter(alloc, b"client_encoding", b"UTF8")?)?;
+    messages.push(parameter(alloc, b"DateStyle", b"ISO, MDY")?)?;
+    messages.push(parameter(alloc, b"integer_datetimes", b"on")?)?;
+    messages.push(parameter(alloc, b"standard_conforming_strings", b"on")?)?;
+    Ok(messages)
 }
 
 /// The names of the features, in their order, with commas between them.
-fn feature_names(alloc: Global, features: &Features) -> Result<Vec<u8>, Memory> {
+#[tactic(auto, using(crate::proofs::StartTextLaws::listed_more))]
+fn feature_names(alloc: Global, features: &Features) -> Result<Vec<u8>, Memory>
+    ensures { IfOk result (λ it. it.items ≡ listed features.now) }
+{
     let mut names = Vec::new(alloc);
     for feature in 0..features.count() {
-        if feature > 0 {
-            names.push(b',')?;
-        }
-        names.extend_from_slice(features.name(feature).as_slice())?;
+        push_name(features, feature, &mut names)?;
     }
     Ok(names)
+}
+
+/// Adds the name of a feature, behind a comma if another stands before it.
+fn push_name(features: &Features, feature: u8, names: &mut Vec<u8>) -> Result<(), Memory>
+    requires { feature < length features.now }
+    ensures { OnOk result (names.new.items ≡ names.old.items ++ piece features.now feature) }
+{
+    push_comma(feature, names)?;
+    names.extend_from_slice(features.name(feature).as_slice())?;
+    Ok(())
+}
+
+fn push_comma(feature: u8, names: &mut Vec<u8>) -> Result<(), Memory>
+    ensures { OnOk result (names.new.items ≡ names.old.items ++ (if feature == 0 then [] else codes ",")) }
+{
+    if feature > 0 {
+        names.push(b',')?;
+    }
+    Ok(())
 }

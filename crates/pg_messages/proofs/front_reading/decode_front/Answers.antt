@@ -5,10 +5,10 @@ use Rattle.pg_messages.proofs.Packets.{whole_from, answers_same}
 use Rattle.pg_messages.proofs.front_reading.decode_front.Goals as goal
 
 pub returns-clause-whole : goal.returns-clause-whole
-returns-clause-whole c = whole_from _ _ _ c.front_at.ensures (λ m n is. front_takes c.args.bytes.now m n (λ i. omega (arith, c.type_inv.bytes i)) is)
+returns-clause-whole c = whole_from _ _ _ c.front_at.ensures.exact (λ m n is. front_takes c.args.bytes.now m n (λ i. omega (arith, c.type_inv.bytes i)) is)
 
 pub returns-clause-within : goal.returns-clause-within
-returns-clause-within c = whole_from _ _ _ c.front_at.ensures (λ m n is. let found = front_takes c.args.bytes.now m n (λ i. omega (arith, c.type_inv.bytes i)) is in (front_least m n c.args.bytes.now found.1, found.0))
+returns-clause-within c = whole_from _ _ _ c.front_at.ensures.exact (λ m n is. let found = front_takes c.args.bytes.now m n (λ i. omega (arith, c.type_inv.bytes i)) is in (front_least m n c.args.bytes.now found.1, found.0))
 
 pub returns-clause-read : goal.returns-clause-read
-returns-clause-read c = λ m packet rest is same. answers_same _ _ _ c.front_at.ensures (ap front_of same ∙ front_again m packet rest is)
+returns-clause-read c = λ m packet rest is same. answers_same _ _ _ c.front_at.ensures.exact (ap front_of same ∙ front_again m packet rest is)

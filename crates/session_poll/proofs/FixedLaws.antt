@@ -1,0 +1,17 @@
+-- The replies of fixed bytes are the messages that they stand for.
+use Rattle.std.proofs.Common.{◌≡◌, [], ◌∷◌, refl}
+use Rattle.session_poll.specs.declared.fixed.TheConstants.{NOT_BUILT, OUT_OF_MEMORY, OUT_OF_MEMORY_AND_READY, READY}
+use Rattle.session_poll.specs.declared.refusal.Refusal.TheVariants as refusal
+use Rattle.session_poll.specs.Replies.{spelled, error_of, ready_for_query}
+
+pub not_built_is : NOT_BUILT.now ≡ spelled (error_of refusal.NotBuilt ∷ [])
+not_built_is = refl
+
+pub out_of_memory_is : OUT_OF_MEMORY.now ≡ spelled (error_of refusal.OutOfMemory ∷ [])
+out_of_memory_is = refl
+
+pub out_of_memory_and_ready_is : OUT_OF_MEMORY_AND_READY.now ≡ spelled (error_of refusal.OutOfMemory ∷ ready_for_query ∷ [])
+out_of_memory_and_ready_is = refl
+
+pub ready_is : READY.now ≡ spelled (ready_for_query ∷ [])
+ready_is = refl

@@ -1,0 +1,14 @@
+mod AndLaws
+mod BeginLaws
+mod CourseLaws
+mod FixedLaws
+mod MoveLaws
+mod OutputLaws
+mod PollLaws
+mod QueryLaws
+mod RunLaws
+mod ScanLaws
+mod SessionLaws
+mod StartLaws
+mod StartTextLaws
+mod TableLaws

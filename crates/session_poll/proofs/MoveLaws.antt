@@ -1,0 +1,120 @@
+-- A step of the session machine, by what its rule left.
+use Rattle.std.proofs.Common.{◌≡◌, ◌∙◌, ℕ, ◌≤◌, Bool, true, false, not, List, [], ◌∷◌, ◌++◌, length, take, drop, Option, Some, None, is_some, refl, sym, ap, subst, take-append-drop, take_all, length-take-le, le_of_eq, arith}
+use Rattle.pg_messages.specs.FrontReading.{front_head, front_of}
+use Rattle.pg_messages.specs.FrontSpelling.{IsFront}
+use Rattle.pg_messages.specs.Packet.{length_of, is_more}
+use Rattle.pg_messages.specs.StartupReading.{startup_head, startup_of}
+use Rattle.pg_messages.specs.StartupSpelling.{IsStartup}
+use Rattle.pg_messages.specs.declared.back.Back.{Back}
+use Rattle.pg_messages.specs.declared.decoded.Decoded.TheVariants as decoded
+use Rattle.pg_messages.specs.declared.decoded.Why.{Why}
+use Rattle.pg_messages.specs.declared.front.Front.{Front}
+use Rattle.pg_messages.specs.declared.startup.Startup.{Startup}
+use Rattle.session_poll.specs.declared.opening.Opening.{Opening}
+use Rattle.session_poll.specs.declared.session.Session.{Session}
+use Rattle.session_poll.specs.declared.state.Phase.{Phase}
+use Rattle.session_poll.specs.declared.state.Phase.TheVariants as phases
+use Rattle.session_poll.specs.Courses.{Course, Input, StartUp, Message, Bad, Unread, Next}
+use Rattle.session_poll.specs.Packets.{is_bad, IsStartupCut, IsFrontCut, Eats}
+use Rattle.session_poll.specs.Parts.{Keeps, Same, Drops, Skips, Takes, Moved, Idles}
+use Rattle.session_poll.specs.Queries.{RunsOut, EndsQuery}
+use Rattle.session_poll.specs.Replies.{spelled}
+use Rattle.session_poll.specs.Runs.{AllFit, HasSnapshot}
+use Rattle.session_poll.specs.Session.{state_of, held_of, waiting_of}
+use Rattle.session_poll.specs.Standing.{works}
+use Rattle.session_poll.specs.StartUps.{Rejects, StartsUp}
+use Rattle.session_poll.specs.State.{State}
+use Rattle.session_poll.specs.Steps.{Handles, Refuses, Step}
+
+-- the packet was dropped from what was held, and then its rule was followed
+moved_by : (opening : Opening) (old mid new : Session) (phase : Phase) (input : Input) (rule : State → Course → Type 0) (count : ℕ) → old.phase ≡ phase → ((s : State) (c : Course) → rule s c → Step opening phase input s c) → Drops count old mid → Takes rule mid new → Eats phase input (take count (held_of old)) → Moved opening old new
+moved_by opening old mid new phase input rule count is follows d t eats = record {
+  did = record { input = input; bytes = take count (held_of old); course = t.course };
+  step = subst (λ p. Step opening p input (state_of old) t.course) (sym is) (follows (state_of old) t.course (subst (λ s. rule s t.course) d.state t.rule_is));
+  eats = subst (λ p. Eats p input (take count (held_of old))) (sym is) eats;
+  held = sym (ap (λ (h : List ℕ). take count (held_of old) ++ h) (t.keeps.held ∙ d.held) ∙ take-append-drop count (held_of old));
+  state = t.state;
+  put = t.put ∙ ap (λ o. o.bytes ++ spelled t.course.replies) d.output;
+  over = t.keeps.over ∙ d.over;
+  fits = λ has. t.fits (subst (HasSnapshot 0) (sym (ap (λ (s : State). s.transaction) d.state)) has);
+}
+
+pub started : (opening : Opening) (old mid new : Session) (packet : Startup) (count : ℕ) → old.phase ≡ phases.Start → Drops count old mid → Takes (StartsUp opening packet) mid new → (count ≤ length (held_of old)) × IsStartup packet (take count (held_of old)) → Moved opening old new
+started opening old mid new packet count is d t whole = moved_by opening old mid new phases.Start (StartUp packet) (StartsUp opening packet) count is (λ s c r. r) d t whole.1
+
+pub handled : (opening : Opening) (old mid new : Session) (message : Front) (count : ℕ) → old.phase ≡ phases.Ready → Drops count old mid → Takes (Handles opening message) mid new → (count ≤ length (held_of old)) × IsFront message (take count (held_of old)) → Moved opening old new
+handled opening old mid new message count is d t whole = moved_by opening old mid new phases.Ready (Message message) (Handles opening message) count is (λ s c r. r) d t whole.1
+
+all_held : (held : List ℕ) → take (length held) held ≡ held
+all_held held = take_all (length held) held (le_of_eq refl)
+
+pub start_bad : (opening : Opening) (old mid new : Session) (place : ℕ) (cause : Why) → old.phase ≡ phases.Start → startup_of (held_of old) ≡ decoded.Bad place cause → Drops (length (held_of old)) old mid → Takes Rejects mid new → Moved opening old new
+start_bad opening old mid new place cause is bad d t =
+    moved_by opening old mid new phases.Start Bad Rejects (length (held_of old)) is (λ s c r. r) d t (rw (all_held (held_of old)) (ap is_bad bad))
+
+pub message_bad : (opening : Opening) (old mid new : Session) (place : ℕ) (cause : Why) → old.phase ≡ phases.Ready → front_of (held_of old) ≡ decoded.Bad place cause → Drops (length (held_of old)) old mid → Takes Rejects mid new → Moved opening old new
+message_bad opening old mid new place cause is bad d t =
+    moved_by opening old mid new phases.Ready Bad Rejects (length (held_of old)) is (λ s c r. r) d t (rw (all_held (held_of old)) (ap is_bad bad))
+
+-- the packet that is cut off is one by its head
+cut_length : (count : ℕ) (held : List ℕ) → count ≤ length held → count ≡ length (take count held)
+cut_length count held within = sym (length-take-le count held within)
+
+startup_cut : (count : ℕ) (held : List ℕ) → count ≤ length held → length_of (startup_head held) ≡ Some count → IsStartupCut (take count held)
+startup_cut count held within is = record {
+  behind = drop count held;
+  cut = ap (λ (h : List ℕ). length_of (startup_head h)) (take-append-drop count held) ∙ is ∙ ap Some (cut_length count held within);
+}
+
+front_cut : (count : ℕ) (held : List ℕ) → count ≤ length held → length_of (front_head held) ≡ Some count → IsFrontCut (take count held)
+front_cut count held within is = record {
+  behind = drop count held;
+  cut = ap (λ (h : List ℕ). length_of (front_head h)) (take-append-drop count held) ∙ is ∙ ap Some (cut_length count held within);
+}
+
+start_skipped : (opening : Opening) (old mid new : Session) (found : Option ℕ) → length_of (startup_head (held_of old)) ≡ found → old.phase ≡ phases.Start → Skips found old mid → Takes Refuses mid new → Moved opening old new
+start_skipped opening old mid new None there is s t = absurd s
+start_skipped opening old mid new (Some count) there is s t =
+    moved_by opening old mid new phases.Start Unread Refuses count is (λ s c r. r) s.1 t (startup_cut count (held_of old) s.0 there)
+
+pub start_unread : (opening : Opening) (old mid new : Session) → old.phase ≡ phases.Start → Skips (length_of (startup_head (held_of old))) old mid → Takes Refuses mid new → Moved opening old new
+start_unread opening old mid new is s t = start_skipped opening old mid new (length_of (startup_head (held_of old))) refl is s t
+
+message_skipped : (opening : Opening) (old mid new : Session) (found : Option ℕ) → length_of (front_head (held_of old)) ≡ found → old.phase ≡ phases.Ready → Skips found old mid → Takes RunsOut mid new → Moved opening old new
+message_skipped opening old mid new None there is s t = absurd s
+message_skipped opening old mid new (Some count) there is s t =
+    moved_by opening old mid new phases.Ready Unread RunsOut count is (λ s c r. r) s.1 t (front_cut count (held_of old) s.0 there)
+
+pub message_unread : (opening : Opening) (old mid new : Session) → old.phase ≡ phases.Ready → Skips (length_of (front_head (held_of old))) old mid → Takes RunsOut mid new → Moved opening old new
+message_unread opening old mid new is s t = message_skipped opening old mid new (length_of (front_head (held_of old))) refl is s t
+
+-- a Query's end takes no bytes
+pub query_ended : (opening : Opening) (old new : Session) (complete : Back) → old.phase ≡ phases.Query complete → Takes (EndsQuery complete) old new → Moved opening old new
+query_ended opening old new complete is t = record {
+  did = record { input = Next; bytes = []; course = t.course };
+  step = subst (λ p. Step opening p Next (state_of old) t.course) (sym is) t.rule_is;
+  eats = subst (λ p. Eats p Next []) (sym is) refl;
+  held = sym t.keeps.held;
+  state = t.state;
+  put = t.put;
+  over = t.keeps.over;
+  fits = t.fits;
+}
+
+same_itself : (old : Session) → Same old old
+same_itself old = record { state = refl; waiting = refl; input = record { held = refl; over = refl } }
+
+pub start_idle : (old : Session) → old.phase ≡ phases.Start → startup_of (held_of old) ≡ decoded.More → Idles old old
+start_idle old is more = record {
+  same = same_itself old;
+  idle = rw is (ap (λ d. not (is_more d)) more);
+}
+
+pub message_idle : (old : Session) → old.phase ≡ phases.Ready → front_of (held_of old) ≡ decoded.More → Idles old old
+message_idle old is more = record {
+  same = same_itself old;
+  idle = rw is (ap (λ d. not (is_more d)) more);
+}
+
+pub idle_ended : (old : Session) → old.phase ≡ phases.Ended → Idles old old
+idle_ended old is = record { same = same_itself old; idle = rw is refl }

@@ -1,0 +1,174 @@
+-- The query rule, part by part.
+use Rattle.std.proofs.Common.{◌≡◌, ◌∙◌, ℕ, true, List, [], ◌∷◌, ◌++◌, inl, inr, ◌⊎◌, Option, Some, None, refl, sym, ap, subst, append_assoc, append-nil}
+use Rattle.pg_messages.specs.declared.back.Back.{Back}
+use Rattle.session_poll.specs.declared.fixed.TheConstants.{NOT_BUILT, OUT_OF_MEMORY_AND_READY, READY}
+use Rattle.session_poll.specs.declared.opening.Opening.{Opening}
+use Rattle.session_poll.specs.declared.refusal.Refusal.{Refusal}
+use Rattle.session_poll.specs.declared.refusal.Refusal.TheVariants as refusal
+use Rattle.session_poll.specs.declared.session.Session.{Session}
+use Rattle.session_poll.specs.declared.state.Phase.TheVariants as phases
+use Rattle.session_poll.specs.Begins.{Begins}
+use Rattle.session_poll.specs.Courses.{Course, Follows, Then, goes, both}
+use Rattle.session_poll.specs.Parts.{Keeps, KeepsState, IsReady, IsEnded, Done, Takes, Told, ToldEnd, Failed}
+use Rattle.session_poll.specs.Queries.{IsRead, IsQuery, Queries, Runs, RunsOut, Closes, EndsQuery}
+use Rattle.session_poll.specs.Replies.{spelled, error_of, ready_for_query}
+use Rattle.session_poll.specs.Session.{state_of, waiting_of}
+use Rattle.session_poll.specs.StartUps.{Rejects}
+use Rattle.session_poll.specs.State.{State, ready, ended}
+use Rattle.session_poll.specs.Tables.{AnswersTable}
+use Rattle.session_poll.proofs.CourseLaws.{put_behind, put_bytes, fit_append, keeps_same, keeps_on, log_closed}
+use Rattle.session_poll.proofs.FixedLaws.{not_built_is, out_of_memory_and_ready_is, ready_is}
+
+pub then_goes : (first second : State → Course → Type 0) (old mid new : Session) (refused : Option Refusal) → Done first old None mid → Done second mid refused new → Done (Then first second) old refused new
+then_goes first second old mid new refused d e = record {
+  course = both d.course e.course;
+  part_is = record {
+    one = d.course;
+    first_is = d.part_is;
+    rest = subst (λ r. Follows r d.course second (both d.course e.course)) (sym d.refused_is)
+        (e.course, subst (λ s. second s e.course) d.state e.part_is, refl);
+  };
+  refused_is = e.refused_is;
+  state = e.state;
+  put = put_behind (waiting_of old) (waiting_of mid) (waiting_of new) d.course.replies e.course.replies d.put e.put;
+  keeps = keeps_on old mid new d.keeps e.keeps;
+  fits = λ has. let f = d.fits has in let g = e.fits f.1 in (fit_append 0 d.course.events e.course.events f.0 g.0, g.1);
+  room = e.room;
+}
+
+pub then_stops : (first second : State → Course → Type 0) (old new : Session) (why : Refusal) → Done first old (Some why) new → Done (Then first second) old (Some why) new
+then_stops first second old new why d = record {
+  course = d.course;
+  part_is = record { one = d.course; first_is = d.part_is; rest = subst (λ r. Follows r d.course second d.course) (sym d.refused_is) refl };
+  refused_is = d.refused_is;
+  state = d.state;
+  put = d.put;
+  keeps = d.keeps;
+  fits = d.fits;
+  room = d.room;
+}
+
+pub runs_through : (part : State → Course → Type 0) (old new : Session) → Done part old None new → Takes (Runs part) old new
+runs_through part old new d = record {
+  course = d.course;
+  rule_is = record { one = d.course; part_is = d.part_is; closes = subst (λ r. Closes r d.course d.course) (sym d.refused_is) refl };
+  state = d.state;
+  put = d.put;
+  keeps = d.keeps;
+  fits = d.fits;
+}
+
+pub runs_failed : (part : State → Course → Type 0) (old mid new : Session) (why : Refusal) → Done part old (Some why) mid → Failed why mid new → Takes (Runs part) old new
+runs_failed part old mid new why d f =
+    let c : Course = goes d.course.events (d.course.replies ++ f.message ∷ ready_for_query ∷ []) (ready d.course.after) in
+    let state : state_of new ≡ ready d.course.after = f.state ∙ ap ready d.state in
+    record {
+      course = c;
+      rule_is = record {
+        one = d.course;
+        part_is = d.part_is;
+        closes = subst (λ r. Closes r d.course c) (sym d.refused_is) (record { message = f.message; told = f.told; course = refl });
+      };
+      state = state;
+      put = put_behind (waiting_of old) (waiting_of mid) (waiting_of new) d.course.replies (f.message ∷ ready_for_query ∷ []) d.put f.put;
+      keeps = keeps_on old mid new d.keeps f.keeps;
+      fits = λ has. ((d.fits has).0, (log_closed old new (ready d.course.after) (goes [] [] (ready d.course.after)) state refl refl has).1);
+    }
+
+pub takes_as : (rule rule' : State → Course → Type 0) (old new : Session) → ((c : Course) → rule (state_of old) c → rule' (state_of old) c) → Takes rule old new → Takes rule' old new
+takes_as rule rule' old new is t = record { course = t.course; rule_is = is t.course t.rule_is; state = t.state; put = t.put; keeps = t.keeps; fits = t.fits }
+
+pub query_run : (opening : Opening) (text name : List ℕ) (old new : Session) → IsRead text (Some name) → Takes (Runs (Then Begins (AnswersTable opening name))) old new → Takes (Queries opening text) old new
+query_run opening text name old new read t =
+    takes_as (Runs (Then Begins (AnswersTable opening name))) (Queries opening text) old new (λ c r. inl (record { read = Some name; is_read = read; course = r })) t
+
+pub query_rejected : (opening : Opening) (text : List ℕ) (old new : Session) → IsRead text None → Takes Rejects old new → Takes (Queries opening text) old new
+query_rejected opening text old new read t = takes_as Rejects (Queries opening text) old new (λ c r. inl (record { read = None; is_read = read; course = r })) t
+
+pub query_out : (opening : Opening) (text : List ℕ) (old new : Session) → Takes RunsOut old new → Takes (Queries opening text) old new
+query_out opening text old new t = takes_as RunsOut (Queries opening text) old new (λ c r. inr r) t
+
+pub told_error : (why : Refusal) (old mid new : Session) → waiting_of mid ≡ waiting_of old ++ spelled (error_of why ∷ []) → waiting_of new ≡ waiting_of mid ++ READY.now → KeepsState old new → Told why old new
+told_error why old mid new m n keeps = record {
+  message = error_of why;
+  told = inl refl;
+  put = put_bytes (waiting_of old) (waiting_of mid) (waiting_of new) READY.now (error_of why ∷ []) (ready_for_query ∷ []) ready_is m n;
+  keeps = keeps;
+}
+
+out_put : (old mid new : List ℕ) → mid ≡ old → new ≡ mid ++ OUT_OF_MEMORY_AND_READY.now → new ≡ old ++ spelled (error_of refusal.OutOfMemory ∷ ready_for_query ∷ [])
+out_put old mid new m n = n ∙ ap (λ (b : List ℕ). b ++ OUT_OF_MEMORY_AND_READY.now) m ∙ ap (λ (b : List ℕ). old ++ b) out_of_memory_and_ready_is
+
+pub told_memory : (why : Refusal) (old mid new : Session) → waiting_of mid ≡ waiting_of old → waiting_of new ≡ waiting_of mid ++ OUT_OF_MEMORY_AND_READY.now → KeepsState old new → Told why old new
+told_memory why old mid new m n keeps = record {
+  message = error_of refusal.OutOfMemory;
+  told = inr refl;
+  put = out_put (waiting_of old) (waiting_of mid) (waiting_of new) m n;
+  keeps = keeps;
+}
+
+pub failed : (why : Refusal) (old mid new : Session) → Told why old mid → IsReady mid new → Failed why old new
+failed why old mid new t r = record {
+  message = t.message;
+  told = t.told;
+  state = r.state;
+  put = ap (λ o. o.bytes) r.output ∙ t.put;
+  keeps = keeps_on old mid new t.keeps.input r.input;
+}
+
+pub told_complete : (complete : Back) (old mid new : Session) → waiting_of mid ≡ waiting_of old ++ spelled (complete ∷ []) → waiting_of new ≡ waiting_of mid ++ READY.now → KeepsState old new → ToldEnd complete old new
+told_complete complete old mid new m n keeps = record {
+  put = inl (put_bytes (waiting_of old) (waiting_of mid) (waiting_of new) READY.now (complete ∷ []) (ready_for_query ∷ []) ready_is m n);
+  keeps = keeps;
+}
+
+pub told_no_complete : (complete : Back) (old mid new : Session) → waiting_of mid ≡ waiting_of old → waiting_of new ≡ waiting_of mid ++ OUT_OF_MEMORY_AND_READY.now → KeepsState old new → ToldEnd complete old new
+told_no_complete complete old mid new m n keeps = record { put = inr (out_put (waiting_of old) (waiting_of mid) (waiting_of new) m n); keeps = keeps }
+
+-- the Query's end, by what was told
+ends_as : (complete : Back) (replies : List Back) (old mid new : Session) → waiting_of mid ≡ waiting_of old ++ spelled replies → KeepsState old mid → IsReady mid new → EndsQuery complete (state_of old) (goes [] replies (ready (state_of old))) → Takes (EndsQuery complete) old new
+ends_as complete replies old mid new put keeps r is = record {
+  course = goes [] replies (ready (state_of old));
+  rule_is = is;
+  state = r.state;
+  put = ap (λ o. o.bytes) r.output ∙ put;
+  keeps = keeps_on old mid new keeps.input r.input;
+  fits = log_closed old new (ready (state_of old)) (goes [] replies (ready (state_of old))) r.state refl refl;
+}
+
+ends_by : (complete : Back) (old mid new : Session) → KeepsState old mid → IsReady mid new → (waiting_of mid ≡ waiting_of old ++ spelled (complete ∷ ready_for_query ∷ [])) ⊎ (waiting_of mid ≡ waiting_of old ++ spelled (error_of refusal.OutOfMemory ∷ ready_for_query ∷ [])) → Takes (EndsQuery complete) old new
+ends_by complete old mid new keeps r (inl put) = ends_as complete (complete ∷ ready_for_query ∷ []) old mid new put keeps r (inl refl)
+ends_by complete old mid new keeps r (inr put) = ends_as complete (error_of refusal.OutOfMemory ∷ ready_for_query ∷ []) old mid new put keeps r (inr refl)
+
+pub ends_query : (complete : Back) (old mid new : Session) → ToldEnd complete old mid → IsReady mid new → Takes (EndsQuery complete) old new
+ends_query complete old mid new t r = ends_by complete old mid new t.keeps r t.put
+
+pub ran_out : (old mid new : Session) → IsReady mid new → waiting_of mid ≡ waiting_of old ++ OUT_OF_MEMORY_AND_READY.now → KeepsState old mid → Takes RunsOut old new
+ran_out old mid new r put keeps = record {
+  course = goes [] (error_of refusal.OutOfMemory ∷ ready_for_query ∷ []) (ready (state_of old));
+  rule_is = refl;
+  state = r.state;
+  put = ap (λ o. o.bytes) r.output ∙ put ∙ ap (λ (b : List ℕ). waiting_of old ++ b) out_of_memory_and_ready_is;
+  keeps = keeps_on old mid new keeps.input r.input;
+  fits = log_closed old new (ready (state_of old)) (goes [] [] (ready (state_of old))) r.state refl refl;
+}
+
+pub rejected : (old mid new : Session) → IsEnded mid new → waiting_of mid ≡ waiting_of old ++ NOT_BUILT.now → KeepsState old mid → Takes Rejects old new
+rejected old mid new r put keeps = record {
+  course = goes [] (error_of refusal.NotBuilt ∷ []) (ended (state_of old));
+  rule_is = refl;
+  state = r.state;
+  put = ap (λ o. o.bytes) r.output ∙ put ∙ ap (λ (b : List ℕ). waiting_of old ++ b) not_built_is;
+  keeps = keeps_on old mid new keeps.input r.input;
+  fits = log_closed old new (ended (state_of old)) (goes [] [] (ended (state_of old))) r.state refl refl;
+}
+
+pub handled_end : (old new : Session) → IsEnded old new → Takes (λ s c. c ≡ goes [] [] (ended s)) old new
+handled_end old new r = record {
+  course = goes [] [] (ended (state_of old));
+  rule_is = refl;
+  state = r.state;
+  put = ap (λ o. o.bytes) r.output ∙ sym (append-nil (waiting_of old));
+  keeps = r.input;
+  fits = log_closed old new (ended (state_of old)) (goes [] [] (ended (state_of old))) r.state refl refl;
+}

@@ -1,0 +1,89 @@
+-- The statement that is a table's name.
+use Rattle.std.proofs.Common.{◌≡◌, ◌∙◌, ℕ, suc, ◌<◌, ◌≤◌, Bool, true, false, List, [], ◌∷◌, ◌++◌, length, slice_get, position, inl, inr, Option, Some, None, refl, sym, ap, subst, append-nil, MatchOption, arith}
+use Rattle.std.proofs.lemmas.List.Quantifiers.{position-Some}
+use Rattle.std.proofs.lemmas.Option.{slice_get-get_or}
+use Rattle.session_poll.proofs.ScanLaws.{scan_is_answer}
+use Rattle.feature_expr.specs.declared.expr.Expr.{Expr}
+use Rattle.session_poll.specs.declared.opening.Opening.{Opening}
+use Rattle.session_poll.specs.declared.refusal.Refusal.TheVariants as refusal
+use Rattle.session_poll.specs.declared.session.Session.{Session}
+use Rattle.session_poll.specs.declared.state.Phase.TheVariants as phases
+use Rattle.session_poll.specs.declared.state.Transaction.{Transaction}
+use Rattle.session_poll.specs.declared.state.Transaction.TheVariants as transactions
+use Rattle.session_poll.specs.AnswerMessages.{answer_messages, select_complete}
+use Rattle.session_poll.specs.Courses.{Course, goes, stops}
+use Rattle.session_poll.specs.Parts.{Keeps, KeepsState, Done}
+use Rattle.session_poll.specs.Replies.{spelled}
+use Rattle.session_poll.specs.Runs.{AllFit, HasSnapshot}
+use Rattle.session_poll.specs.Scans.{scanned}
+use Rattle.session_poll.specs.Servable.{IsServable}
+use Rattle.session_poll.specs.Session.{state_of, waiting_of}
+use Rattle.session_poll.specs.State.{State, in_phase}
+use Rattle.session_poll.specs.Tables.{number_of, view_of, Answered, Found, ShowsTable, Finds, AnswersTable}
+use Rattle.vschema.specs.declared.catalog.Table.{Table}
+
+view_fits : (transaction : Transaction) → HasSnapshot 0 transaction → AllFit 0 (view_of transaction)
+view_fits transactions.Idle has = tt
+view_fits (transactions.Implicit snapshot) has = (has, tt)
+
+-- the table's answer was put
+pub shows : (opening : Opening) (number : ℕ) (table : Table) (old new : Session) → IsServable opening → slice_get opening.catalog.tables number ≡ Some table → waiting_of new ≡ waiting_of old ++ spelled (answer_messages opening.catalog.features (scanned number table opening.rows)) → state_of new ≡ in_phase (phases.Query (select_complete (scanned number table opening.rows))) (state_of old) → Keeps old new → new.output.is_ready ≡ true → Done (ShowsTable opening number) old None new
+shows opening number table old new servable there put state keeps room =
+    let answer = scanned number table opening.rows in
+    let c : Course = goes (view_of old.transaction) (answer_messages opening.catalog.features answer) (in_phase (phases.Query (select_complete answer)) (state_of old)) in
+    record {
+      course = c;
+      part_is = inl (record {
+        table = table;
+        there = there;
+        answered = record { answer = answer; is_answer = scan_is_answer opening number table servable there; course = refl };
+      });
+      refused_is = refl;
+      state = state;
+      put = put;
+      keeps = keeps;
+      fits = λ has. (view_fits old.transaction has, subst (HasSnapshot 0) (sym (ap (λ (x : State). x.transaction) state)) has);
+      room = room;
+    }
+
+stopped : (part : State → Course → Type 0) (old new : Session) (why : _) → part (state_of old) (stops why (state_of old)) → waiting_of new ≡ waiting_of old → KeepsState old new → new.output.is_ready ≡ true → Done part old (Some why) new
+stopped part old new why is put keeps room = record {
+  course = stops why (state_of old);
+  part_is = is;
+  refused_is = refl;
+  state = keeps.state;
+  put = put ∙ sym (append-nil (waiting_of old));
+  keeps = keeps.input;
+  fits = λ has. (tt, subst (HasSnapshot 0) (sym (ap (λ (x : State). x.transaction) keeps.state)) has);
+  room = room;
+}
+
+pub shows_not : (opening : Opening) (number : ℕ) (old new : Session) → waiting_of new ≡ waiting_of old → KeepsState old new → new.output.is_ready ≡ true → Done (ShowsTable opening number) old (Some refusal.OutOfMemory) new
+shows_not opening number old new put keeps room = stopped (ShowsTable opening number) old new refusal.OutOfMemory (inr refl) put keeps room
+
+-- the table was found
+pub answers_shown : (opening : Opening) (name : List ℕ) (number : ℕ) (refused : _) (old new : Session) → number_of opening name ≡ Some number → Done (ShowsTable opening number) old refused new → Done (AnswersTable opening name) old refused new
+answers_shown opening name number refused old new is d = record {
+  course = d.course;
+  part_is = subst (λ n. Finds opening name n (state_of old) d.course) (sym is) d.part_is;
+  refused_is = d.refused_is;
+  state = d.state;
+  put = d.put;
+  keeps = d.keeps;
+  fits = d.fits;
+  room = d.room;
+}
+
+-- there is none
+pub answers_none : (opening : Opening) (name : List ℕ) (old : Session) → number_of opening name ≡ None → old.output.is_ready ≡ true → Done (AnswersTable opening name) old (Some (refusal.UnknownTable name)) old
+answers_none opening name old is room =
+    stopped (AnswersTable opening name) old old (refusal.UnknownTable name)
+    (subst (λ n. Finds opening name n (state_of old) (stops (refusal.UnknownTable name) (state_of old))) (sym is) refl)
+    refl (record { state = refl; input = record { held = refl; over = refl } }) room
+
+-- a place that was found has an item
+pub found_there : {X : Type 0} (test : X → Bool) (xs : List X) (k : ℕ) → position test xs ≡ Some k → slice_get xs k ≡ None → ⊥
+found_there test [] k is none = subst (λ o. MatchOption o (Unit {0}) (λ x. ⊥)) is tt
+found_there test (x ∷ xs) k is none =
+    let within = (position-Some test (x ∷ xs) k x is).0 in
+    subst (λ o. MatchOption o (Unit {0}) (λ y. ⊥)) (sym none ∙ slice_get-get_or (x ∷ xs) k x within) tt

@@ -1,0 +1,72 @@
+-- How an answer is spelled in messages: a description of its columns, and a row of data for each of its rows.
+use Rattle.std.specs.Prelude.{ℕ, ℤ, pos, neg_ℤ, Bool, true, false, List, [], ◌∷◌, ◌++◌, map, length, codes, decimal, Option, Some, None}
+use Rattle.std.specs.Fmt.{signed_decimal}
+use Rattle.feature_expr.specs.Printing.{text_of}
+use Rattle.feature_expr.specs.declared.column_name.ColName.{ColName}
+use Rattle.feature_expr.specs.declared.expr.Expr.{Expr, out-Expr}
+use Rattle.feature_expr.specs.declared.expr.Expr.TheOpen.{Expr-F}
+use Rattle.feature_expr.specs.declared.value.Kind.{Kind}
+use Rattle.feature_expr.specs.declared.value.Kind.TheVariants as kind
+use Rattle.feature_expr.specs.declared.value.Value.{Value}
+use Rattle.feature_expr.specs.declared.value.Value.TheVariants as value
+use Rattle.pg_messages.specs.declared.back.Back.{Back}
+use Rattle.pg_messages.specs.declared.back.Back.TheVariants as back
+use Rattle.pg_messages.specs.declared.back.Field.{Field}
+use Rattle.vtable.specs.declared.table.VColumn.{VColumn}
+use Rattle.vtable.specs.declared.table.VRow.{VRow}
+use Rattle.vtable.specs.declared.table.VTable.{VTable}
+
+abbrev pub prefix_text : Option (List ℕ) → List ℕ
+prefix_text None = []
+prefix_text (Some prefix) = prefix ++ codes "."
+
+abbrev pub name_text : ColName → List ℕ
+name_text name = prefix_text name.prefix ++ name.base
+
+-- what follows a column's name where the column isn't always there
+abbrev pub when_step : List ℕ → Expr-F Expr → List ℕ
+when_step text Expr-F.True = []
+when_step text _ = codes " when " ++ text
+
+abbrev pub when_text : List (List ℕ) → Expr → List ℕ
+when_text names cond = when_step (text_of names cond) (out-Expr cond)
+
+-- The number and the size of a kind's type are those of PostgreSQL's catalogue. All fields are in text form.
+abbrev pub field_of : List ℕ → Kind → Field
+field_of name kind.Bool = record { name = name; kind_number = 16; size = pos 1; format = 0 }
+field_of name kind.Int = record { name = name; kind_number = 20; size = pos 8; format = 0 }
+field_of name kind.Text = record { name = name; kind_number = 25; size = neg_ℤ (pos 1); format = 0 }
+
+abbrev pub column_field : List (List ℕ) → VColumn → Field
+column_field names column = field_of (name_text column.name ++ when_text names column.cond) column.kind
+
+-- the last field holds each row's condition
+abbrev pub when_field : Field
+when_field = field_of (codes "when") kind.Text
+
+abbrev pub description : List (List ℕ) → List VColumn → Back
+description names columns = back.RowDescription (map (column_field names) columns ++ when_field ∷ [])
+
+abbrev pub value_text : Value → List ℕ
+value_text (value.Int number) = signed_decimal number
+value_text (value.Text text) = text
+value_text (value.Bool true) = codes "t"
+value_text (value.Bool false) = codes "f"
+
+-- an absent cell is null
+abbrev pub cell_text : Option Value → Option (List ℕ)
+cell_text None = None
+cell_text (Some value) = Some (value_text value)
+
+abbrev pub data_row : List (List ℕ) → VRow → Back
+data_row names row = back.DataRow (map cell_text row.cells ++ Some (text_of names row.cond) ∷ [])
+
+abbrev pub answer_messages : List (List ℕ) → VTable → List Back
+answer_messages names answer = description names answer.columns ∷ map (data_row names) answer.rows
+
+-- how many rows there were
+abbrev pub select_tag : ℕ → List ℕ
+select_tag count = codes "SELECT " ++ decimal count
+
+abbrev pub select_complete : VTable → Back
+select_complete answer = back.CommandComplete (select_tag (length answer.rows))

@@ -1,0 +1,47 @@
+-- What a step takes and what it does. A rule is a relation between the state before and the course of its step.
+use Rattle.std.specs.Prelude.{◌≡◌, ℕ, List, [], ◌++◌, Option, Some, None}
+use Rattle.pg_messages.specs.declared.back.Back.{Back}
+use Rattle.pg_messages.specs.declared.front.Front.{Front}
+use Rattle.pg_messages.specs.declared.startup.Startup.{Startup}
+use Rattle.session_poll.specs.declared.refusal.Refusal.{Refusal}
+use Rattle.session_poll.specs.State.{State}
+
+-- what a step begins with: a packet, a bad one, one that is all there and for which no memory was found, or the next
+-- step of a Query that isn't finished
+pub data Input : Type 0 where
+  StartUp : (packet : Startup) → Input
+  Message : (message : Front) → Input
+  Bad : Input
+  Unread : Input
+  Next : Input
+
+-- what the store answered: a transaction began over the snapshot of so many commits; rows were read over it
+pub data Event : Type 0 where
+  Begun : (snapshot : ℕ) → Event
+  Viewed : (snapshot : ℕ) → Event
+
+-- the store's answers, the replies, the refusal with which it stopped, and the state after it
+pub record Course : Type 0 where
+  pub events : List Event
+  pub replies : List Back
+  pub refused : Option Refusal
+  pub after : State
+
+abbrev pub goes : List Event → List Back → State → Course
+goes events replies after = record { events = events; replies = replies; refused = None; after = after }
+
+abbrev pub stops : Refusal → State → Course
+stops why after = record { events = []; replies = []; refused = Some why; after = after }
+
+abbrev pub both : Course → Course → Course
+both one two = record { events = one.events ++ two.events; replies = one.replies ++ two.replies; refused = two.refused; after = two.after }
+
+abbrev pub Follows : Option Refusal → Course → (State → Course → Type 0) → Course → Type 0
+Follows (Some why) one second all = all ≡ one
+Follows None one second all = (two : Course) × second one.after two × (all ≡ both one two)
+
+-- one rule, and the other behind it where the first wasn't refused
+pub record Then (first second : State → Course → Type 0) (old : State) (all : Course) : Type 0 where
+  pub one : Course
+  pub first_is : first old one
+  pub rest : Follows one.refused one second all

@@ -1,0 +1,119 @@
+-- What the parts of a step leave of a session.
+use Rattle.std.specs.Prelude.{◌≡◌, ℕ, ◌≤◌, Bool, true, false, List, [], ◌∷◌, ◌++◌, ◌⊎◌, drop, length, Option, Some, None}
+use Rattle.pg_messages.specs.declared.back.Back.{Back}
+use Rattle.session_poll.specs.declared.opening.Opening.{Opening}
+use Rattle.session_poll.specs.declared.refusal.Refusal.{Refusal}
+use Rattle.session_poll.specs.declared.refusal.Refusal.TheVariants as refusal
+use Rattle.session_poll.specs.declared.session.Session.{Session}
+use Rattle.session_poll.specs.Courses.{Course}
+use Rattle.session_poll.specs.Packets.{Eats}
+use Rattle.session_poll.specs.Queries.{Tells}
+use Rattle.session_poll.specs.Replies.{spelled, error_of, ready_for_query}
+use Rattle.session_poll.specs.Runs.{AllFit, Did, HasSnapshot}
+use Rattle.session_poll.specs.Session.{state_of, held_of, waiting_of, is_over}
+use Rattle.session_poll.specs.Standing.{works}
+use Rattle.session_poll.specs.State.{State, ready, ended}
+use Rattle.session_poll.specs.Steps.{Step}
+
+-- the input stays
+pub record Keeps (old new : Session) : Type 0 where
+  pub held : held_of new ≡ held_of old
+  pub over : is_over new ≡ is_over old
+
+-- all stays but the output
+pub record KeepsState (old new : Session) : Type 0 where
+  pub state : state_of new ≡ state_of old
+  pub input : Keeps old new
+
+-- nothing that a client sees has changed
+pub record Same (old new : Session) : Type 0 where
+  pub state : state_of new ≡ state_of old
+  pub waiting : waiting_of new ≡ waiting_of old
+  pub input : Keeps old new
+
+-- the first bytes that are held are dropped
+pub record Drops (count : ℕ) (old new : Session) : Type 0 where
+  pub state : state_of new ≡ state_of old
+  pub output : new.output ≡ old.output
+  pub held : held_of new ≡ drop count (held_of old)
+  pub over : is_over new ≡ is_over old
+
+-- so many bytes are dropped, where there is such a number
+abbrev pub Skips : Option ℕ → Session → Session → Type 0
+Skips None old new = ⊥
+Skips (Some count) old new = (count ≤ length (held_of old)) × Drops count old new
+
+-- the state changes and nothing else
+pub record IsReady (old new : Session) : Type 0 where
+  pub state : state_of new ≡ ready (state_of old)
+  pub output : new.output ≡ old.output
+  pub input : Keeps old new
+
+pub record IsEnded (old new : Session) : Type 0 where
+  pub state : state_of new ≡ ended (state_of old)
+  pub output : new.output ≡ old.output
+  pub input : Keeps old new
+
+-- where the transaction before it has one, so have the events and the transaction after it
+abbrev pub KeepsLog : ℕ → Session → Course → Session → Type 0
+KeepsLog log old course new = HasSnapshot log old.transaction → AllFit log course.events × HasSnapshot log new.transaction
+
+-- A part of a rule was run, with this course. Room for a reply of fixed bytes is left.
+pub record Done (part : State → Course → Type 0) (old : Session) (refused : Option Refusal) (new : Session) : Type 0 where
+  pub course : Course
+  pub part_is : part (state_of old) course
+  pub refused_is : course.refused ≡ refused
+  pub state : state_of new ≡ course.after
+  pub put : waiting_of new ≡ waiting_of old ++ spelled course.replies
+  pub keeps : Keeps old new
+  pub fits : KeepsLog 0 old course new
+  pub room : new.output.is_ready ≡ true
+
+-- a whole rule was followed, with this course
+pub record Takes (rule : State → Course → Type 0) (old new : Session) : Type 0 where
+  pub course : Course
+  pub rule_is : rule (state_of old) course
+  pub state : state_of new ≡ course.after
+  pub put : waiting_of new ≡ waiting_of old ++ spelled course.replies
+  pub keeps : Keeps old new
+  pub fits : KeepsLog 0 old course new
+
+-- an error was told, and that the Query ended
+pub record Told (why : Refusal) (old new : Session) : Type 0 where
+  pub message : Back
+  pub told : Tells why message
+  pub put : waiting_of new ≡ waiting_of old ++ spelled (message ∷ ready_for_query ∷ [])
+  pub keeps : KeepsState old new
+
+-- the state after it too
+pub record Failed (why : Refusal) (old new : Session) : Type 0 where
+  pub message : Back
+  pub told : Tells why message
+  pub state : state_of new ≡ ready (state_of old)
+  pub put : waiting_of new ≡ waiting_of old ++ spelled (message ∷ ready_for_query ∷ [])
+  pub keeps : Keeps old new
+
+-- the end of a Query was told, or want of memory
+pub record ToldEnd (complete : Back) (old new : Session) : Type 0 where
+  pub put : (waiting_of new ≡ waiting_of old ++ spelled (complete ∷ ready_for_query ∷ [])) ⊎ (waiting_of new ≡ waiting_of old ++ spelled (error_of refusal.OutOfMemory ∷ ready_for_query ∷ []))
+  pub keeps : KeepsState old new
+
+-- a step of the session machine was taken
+pub record Moved (opening : Opening) (old new : Session) : Type 0 where
+  pub did : Did
+  pub step : Step opening old.phase did.input (state_of old) did.course
+  pub eats : Eats old.phase did.input did.bytes
+  pub held : held_of old ≡ did.bytes ++ held_of new
+  pub state : state_of new ≡ did.course.after
+  pub put : waiting_of new ≡ waiting_of old ++ spelled did.course.replies
+  pub over : is_over new ≡ is_over old
+  pub fits : KeepsLog 0 old did.course new
+
+pub record Idles (old new : Session) : Type 0 where
+  pub same : Same old new
+  pub idle : works old.phase (held_of old) ≡ false
+
+-- a step was taken, or no work waited
+abbrev pub Moves : Opening → Session → Bool → Session → Type 0
+Moves opening old true new = Moved opening old new
+Moves opening old false new = Idles old new

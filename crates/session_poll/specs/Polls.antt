@@ -1,0 +1,18 @@
+-- What a poll does: none or one step of the session machine.
+use Rattle.std.specs.Prelude.{◌≡◌, ℕ, ◌≤◌, List, [], ◌∷◌, ◌++◌, length}
+use Rattle.session_poll.specs.declared.opening.Opening.{Opening}
+use Rattle.session_poll.specs.declared.polled.Polled.{Polled}
+use Rattle.session_poll.specs.declared.polled.Polled.TheVariants as polled
+use Rattle.session_poll.specs.declared.session.Session.{Session}
+use Rattle.session_poll.specs.Runs.{Did, IsAt}
+use Rattle.session_poll.specs.Session.{is_over}
+use Rattle.session_poll.specs.Standing.{Says}
+
+-- every run that the session was at the end of goes on by the steps of the poll
+pub record Polls (opening : Opening) (old : Session) (result : Polled) (new : Session) : Type 0 where
+  pub did : List Did
+  pub one : length did ≤ 1
+  pub on : (fed taken : List ℕ) (run : List Did) → IsAt opening fed taken run old → IsAt opening fed taken (run ++ did) new
+  pub says : Says result new
+  pub busy : result ≡ polled.Again → length did ≡ 1
+  pub over : is_over new ≡ is_over old

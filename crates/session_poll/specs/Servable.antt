@@ -1,0 +1,12 @@
+-- What a session may be opened over.
+use Rattle.std.specs.Prelude.{◌≡◌, ℕ, true, List}
+use Rattle.condition_sat.specs.Admitted.{IsAdmitted}
+use Rattle.session_poll.specs.declared.opening.Opening.{Opening}
+use Rattle.vschema.specs.Formed.{IsFormed}
+use Rattle.vschema.specs.Gaps.{are_filled}
+
+-- A catalogue and its opening rows are formed, and in each admitted variant each row that is there has a value in each
+-- column that is there.
+pub record IsServable (opening : Opening) : Type 0 where
+  pub formed : IsFormed opening.catalog opening.rows
+  pub filled : (c : List ℕ) → IsAdmitted opening.catalog.model c → are_filled c opening.catalog.tables opening.rows ≡ true

@@ -1,0 +1,39 @@
+-- How a session stands between two polls.
+use Rattle.std.specs.Prelude.{◌≡◌, ℕ, Bool, true, false, not, ◌&&◌, ◌||◌, List, [], ◌∷◌, if◌then◌else◌, ◌⊎◌}
+use Rattle.pg_messages.specs.FrontReading.{front_of}
+use Rattle.pg_messages.specs.Packet.{is_more}
+use Rattle.pg_messages.specs.StartupReading.{startup_of}
+use Rattle.session_poll.specs.declared.polled.Polled.{Polled}
+use Rattle.session_poll.specs.declared.polled.Polled.TheVariants as polled
+use Rattle.session_poll.specs.declared.session.Session.{Session}
+use Rattle.session_poll.specs.declared.state.Phase.{Phase}
+use Rattle.session_poll.specs.declared.state.Phase.TheVariants as phases
+use Rattle.session_poll.specs.Output.{is_empty}
+use Rattle.session_poll.specs.Session.{state_of, held_of, waiting_of, is_over}
+
+-- whether work waits: a whole packet or a bad one, or a Query that isn't finished
+abbrev pub works : Phase → List ℕ → Bool
+works phases.Start held = not (is_more (startup_of held))
+works phases.Ready held = not (is_more (front_of held))
+works (phases.Query complete) held = true
+works phases.Ended held = false
+
+abbrev pub is_ended : Phase → Bool
+is_ended phases.Ended = true
+is_ended _ = false
+
+abbrev pub stands : Bool → Bool → Bool → Polled
+stands true ended quiet = polled.Again
+stands false ended false = polled.NeedOutput
+stands false true true = polled.Closed
+stands false false true = polled.NeedInput
+
+-- A session has ended after a Terminate and after a fatal error, and where nothing more comes and no work is left.
+abbrev pub standing_of : Session → Polled
+standing_of session =
+    let work = works (state_of session).phase (held_of session) in
+    stands work (is_ended (state_of session).phase || is_over session && not work) (is_empty (waiting_of session))
+
+-- a poll says how the session stands, or that output waits for which there is no room
+abbrev pub Says : Polled → Session → Type 0
+Says result session = (result ≡ standing_of session) ⊎ ((result ≡ polled.NeedOutput) × (is_empty (waiting_of session) ≡ false))

@@ -1,0 +1,173 @@
+//! A poll: none or one step of the session machine.
+
+ghost use Rattle.std.specs.Prelude.{◌≡◌, ◌≤◌, ◌++◌, true, false, not, length, take, drop, is_some, min, IfSome};
+ghost use Rattle.pg_messages.specs.FrontReading.{front_head, front_of};
+ghost use Rattle.pg_messages.specs.FrontSpelling.{IsFront};
+ghost use Rattle.pg_messages.specs.Packet.{Answers, IfWhole, IfMemory, length_of};
+ghost use Rattle.pg_messages.specs.StartupReading.{startup_head, startup_of};
+ghost use Rattle.pg_messages.specs.StartupSpelling.{IsStartup};
+ghost use Rattle.session_poll.specs.declared.state.Phase.TheVariants as phases;
+ghost use Rattle.session_poll.specs.Parts.{Drops, Skips, Moves, Takes};
+ghost use Rattle.session_poll.specs.Polls.{Polls};
+ghost use Rattle.session_poll.specs.Servable.{IsServable};
+ghost use Rattle.session_poll.specs.Session.{held_of};
+ghost use Rattle.session_poll.specs.Steps.{Handles};
+
+use crate::opening::Opening;
+use crate::polled::Polled;
+use crate::session::Session;
+use crate::state::Phase;
+use pg_messages::{
+    Decoded, Front, Startup, decode_front, decode_startup, front_length, startup_length,
+};
+
+impl Session {
+    /// Takes at most one packet or one Query's end, and says how the session stands then.
+    #[tactic(auto, using(crate::proofs::PollLaws::polls_moved, crate::proofs::PollLaws::polls_full))]
+    pub fn poll(&mut self, opening: &Opening) -> Polled
+        requires { IsServable opening.now }
+        ensures { Polls opening.now self.old result self.new }
+    {
+        self.output.make_room();
+        if !self.output.is_ready() {
+            return Polled::NeedOutput;
+        }
+        let _has_moved = self.step(opening);
+        self.standing()
+    }
+
+    /// Takes a step if there is one to take.
+    #[tactic(auto, using(crate::proofs::MoveLaws::query_ended, crate::proofs::MoveLaws::idle_ended))]
+    fn step(&mut self, opening: &Opening) -> bool
+        requires ready { self.old.output.is_ready ≡ true }
+        requires servable { IsServable opening.now }
+        ensures { Moves opening.now self.old result self.new }
+    {
+        match &self.phase {
+            Phase::Start => self.take_startup(opening),
+            Phase::Ready => self.take_message(opening),
+            Phase::Query(_) => {
+                self.end_query();
+                true
+            }
+            Phase::Ended => false,
+        }
+    }
+
+    #[tactic(auto, using(crate::proofs::MoveLaws::started, crate::proofs::MoveLaws::start_bad, crate::proofs::MoveLaws::start_unread, crate::proofs::MoveLaws::start_idle))]
+    fn take_startup(&mut self, opening: &Opening) -> bool
+        requires ready { self.old.output.is_ready ≡ true }
+        requires servable { IsServable opening.now }
+        requires phase { self.old.phase ≡ phases.Start }
+        ensures { Moves opening.now self.old result self.new }
+    {
+        match self.next_startup() {
+            Decoded::Whole(packet, count) => {
+                self.discard(count);
+                self.start_up(&packet, opening);
+                true
+            }
+            Decoded::More => false,
+            Decoded::Bad(_place, _why) => {
+                self.discard_all();
+                self.reject();
+                true
+            }
+            Decoded::Memory => {
+                self.skip_startup();
+                self.refuse_start();
+                true
+            }
+        }
+    }
+
+    #[tactic(auto, using(crate::proofs::MoveLaws::handled, crate::proofs::MoveLaws::message_bad, crate::proofs::MoveLaws::message_unread, crate::proofs::MoveLaws::message_idle))]
+    fn take_message(&mut self, opening: &Opening) -> bool
+        requires ready { self.old.output.is_ready ≡ true }
+        requires servable { IsServable opening.now }
+        requires phase { self.old.phase ≡ phases.Ready }
+        ensures { Moves opening.now self.old result self.new }
+    {
+        match self.next_front() {
+            Decoded::Whole(message, count) => {
+                self.discard(count);
+                self.handle(&message, opening);
+                true
+            }
+            Decoded::More => false,
+            Decoded::Bad(_place, _why) => {
+                self.discard_all();
+                self.reject();
+                true
+            }
+            Decoded::Memory => {
+                self.skip_message();
+                self.run_out();
+                true
+            }
+        }
+    }
+
+    fn handle(&mut self, message: &Front, opening: &Opening)
+        requires ready { self.old.output.is_ready ≡ true }
+        requires servable { IsServable opening.now }
+        ensures { Takes (Handles opening.now message.now) self.old self.new }
+    {
+        match message {
+            Front::Query(text) => self.query(text, opening),
+            Front::Terminate => self.end(),
+        }
+    }
+
+    fn next_startup(&self) -> Decoded<Startup>
+        ensures whole { IfWhole result (λ m n. (n ≤ length (held_of self.now)) × IsStartup m (take n (held_of self.now))) }
+        ensures exact { Answers result (startup_of (held_of self.now)) }
+        ensures memory { IfMemory result (is_some (length_of (startup_head (held_of self.now))) ≡ true) }
+    {
+        decode_startup(self.alloc, self.inbox.bytes())
+    }
+
+    fn next_front(&self) -> Decoded<Front>
+        ensures whole { IfWhole result (λ m n. (n ≤ length (held_of self.now)) × IsFront m (take n (held_of self.now))) }
+        ensures exact { Answers result (front_of (held_of self.now)) }
+        ensures memory { IfMemory result (is_some (length_of (front_head (held_of self.now))) ≡ true) }
+    {
+        decode_front(self.alloc, self.inbox.bytes())
+    }
+
+    /// Drops a packet that was taken.
+    fn discard(&mut self, count: usize)
+        requires { count ≤ length (held_of self.old) }
+        ensures { Drops count self.old self.new }
+    {
+        self.inbox.discard(count);
+    }
+
+    /// Drops all that is held.
+    fn discard_all(&mut self)
+        ensures { Drops (length (held_of self.old)) self.old self.new }
+    {
+        let count = self.inbox.bytes().len();
+        self.inbox.discard(count);
+    }
+
+    /// Drops a start-up packet that wasn't read.
+    fn skip_startup(&mut self)
+        requires { is_some (length_of (startup_head (held_of self.old))) ≡ true }
+        ensures { Skips (length_of (startup_head (held_of self.old))) self.old self.new }
+    {
+        if let Some(count) = startup_length(self.inbox.bytes()) {
+            self.inbox.discard(count);
+        }
+    }
+
+    /// Drops a message that wasn't read.
+    fn skip_message(&mut self)
+        requires { is_some (length_of (front_head (held_of self.old))) ≡ true }
+        ensures { Skips (length_of (front_head (held_of self.old))) self.old self.new }
+    {
+        if let Some(count) = front_length(self.inbox.bytes()) {
+            self.inbox.discard(count);
+        }
+    }
+}

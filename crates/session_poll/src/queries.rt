@@ -1,0 +1,161 @@
+//! The query rule.
+
+ghost use Rattle.std.specs.Prelude.{◌≡◌, ◌++◌, [], ◌∷◌, true, None, OnOk, OnErr};
+ghost use Rattle.pg_messages.specs.declared.back.Back.{Back};
+ghost use Rattle.session_poll.specs.Begins.{Begins};
+ghost use Rattle.session_poll.specs.Courses.{Then};
+ghost use Rattle.session_poll.specs.Parts.{Done, Takes, Told, ToldEnd, Failed, KeepsState, IsReady, IsEnded};
+ghost use Rattle.session_poll.specs.Queries.{Queries, Runs, RunsOut, EndsQuery};
+ghost use Rattle.session_poll.specs.Replies.{spelled, error_of, ready_for_query};
+ghost use Rattle.session_poll.specs.Servable.{IsServable};
+ghost use Rattle.session_poll.specs.StartUps.{Rejects};
+ghost use Rattle.session_poll.specs.declared.state.Phase.TheVariants as phases;
+ghost use Rattle.session_poll.specs.Tables.{AnswersTable};
+
+use crate::fixed::{NOT_BUILT, OUT_OF_MEMORY_AND_READY, READY};
+use crate::opening::Opening;
+use crate::query::bare_table;
+use crate::refusal::Refusal;
+use crate::replies::error;
+use crate::session::Session;
+use crate::state::{Phase, Transaction};
+use feature_expr::{Memory, Name, Text};
+
+impl Session {
+    /// Runs the text of a Query.
+    #[tactic(auto, using(crate::proofs::QueryLaws::query_run, crate::proofs::QueryLaws::query_rejected, crate::proofs::QueryLaws::query_out))]
+    pub fn query(&mut self, text: &Text, opening: &Opening)
+        requires ready { self.old.output.is_ready ≡ true }
+        requires servable { IsServable opening.now }
+        ensures { Takes (Queries opening.now text.now) self.old self.new }
+    {
+        match bare_table(self.alloc, text.as_slice()) {
+            Ok(Some(name)) => self.run(name, opening),
+            Ok(None) => self.reject(),
+            Err(Memory) => self.run_out(),
+        }
+    }
+
+    #[tactic(auto, using(crate::proofs::QueryLaws::runs_through, crate::proofs::QueryLaws::runs_failed))]
+    fn run(&mut self, name: Name, opening: &Opening)
+        requires ready { self.old.output.is_ready ≡ true }
+        requires servable { IsServable opening.now }
+        ensures { Takes (Runs (Then Begins (AnswersTable opening.now name))) self.old self.new }
+    {
+        if let Some(why) = self.begin_and_answer(name, opening) {
+            self.fail(&why);
+        }
+    }
+
+    #[tactic(auto, using(crate::proofs::QueryLaws::then_goes, crate::proofs::QueryLaws::then_stops))]
+    fn begin_and_answer(&mut self, name: Name, opening: &Opening) -> Option<Refusal>
+        requires ready { self.old.output.is_ready ≡ true }
+        requires servable { IsServable opening.now }
+        ensures { Done (Then Begins (AnswersTable opening.now name)) self.old result self.new }
+    {
+        match self.begin() {
+            Some(why) => Some(why),
+            None => self.answer_table(name, opening),
+        }
+    }
+
+    /// The error rule in a Query: the error is told, the transaction is dropped, and the Query ends.
+    #[tactic(auto, using(crate::proofs::QueryLaws::failed))]
+    fn fail(&mut self, why: &Refusal)
+        requires { self.old.output.is_ready ≡ true }
+        ensures { Failed why.now self.old self.new }
+    {
+        self.tell_error(why);
+        self.be_ready();
+    }
+
+    #[tactic(auto, using(crate::proofs::QueryLaws::told_error, crate::proofs::QueryLaws::told_memory))]
+    fn tell_error(&mut self, why: &Refusal)
+        requires { self.old.output.is_ready ≡ true }
+        ensures { Told why.now self.old self.new }
+    {
+        match self.put_error(why) {
+            Ok(()) => self.output.put_fixed(READY),
+            Err(Memory) => self.output.put_fixed(OUT_OF_MEMORY_AND_READY),
+        }
+    }
+
+    fn put_error(&mut self, why: &Refusal) -> Result<(), Memory>
+        requires { self.old.output.is_ready ≡ true }
+        ensures ok { OnOk result (self.new.output.bytes ≡ self.old.output.bytes ++ spelled (error_of why.now ∷ [])) }
+        ensures err { OnErr result (self.new.output.bytes ≡ self.old.output.bytes) }
+        ensures ready { self.new.output.is_ready ≡ true }
+        ensures state { KeepsState self.old self.new }
+    {
+        let message = error(self.alloc, why)?;
+        self.output.put(&message)
+    }
+
+    /// Want of memory stands for the message that took it: the transaction is dropped, and the Query ends.
+    #[tactic(auto, using(crate::proofs::QueryLaws::ran_out))]
+    pub fn run_out(&mut self)
+        requires { self.old.output.is_ready ≡ true }
+        ensures { Takes RunsOut self.old self.new }
+    {
+        self.output.put_fixed(OUT_OF_MEMORY_AND_READY);
+        self.be_ready();
+    }
+
+    /// Refuses what isn't built yet, and ends.
+    #[tactic(auto, using(crate::proofs::QueryLaws::rejected))]
+    pub fn reject(&mut self)
+        requires { self.old.output.is_ready ≡ true }
+        ensures { Takes Rejects self.old self.new }
+    {
+        self.output.put_fixed(NOT_BUILT);
+        self.end();
+    }
+
+    /// The end of a Query whose statement was answered: its transaction ends, and its tag is sent.
+    #[tactic(auto, using(crate::proofs::QueryLaws::ends_query))]
+    pub fn end_query(&mut self)
+        requires { self.old.output.is_ready ≡ true }
+        ensures { (complete : Back) → self.old.phase ≡ phases.Query complete → Takes (EndsQuery complete) self.old self.new }
+    {
+        self.tell_end();
+        self.be_ready();
+    }
+
+    #[tactic(auto, using(crate::proofs::QueryLaws::told_complete, crate::proofs::QueryLaws::told_no_complete))]
+    fn tell_end(&mut self)
+        requires { self.old.output.is_ready ≡ true }
+        ensures { (complete : Back) → self.old.phase ≡ phases.Query complete → ToldEnd complete self.old self.new }
+    {
+        match self.put_complete() {
+            Ok(()) => self.output.put_fixed(READY),
+            Err(Memory) => self.output.put_fixed(OUT_OF_MEMORY_AND_READY),
+        }
+    }
+
+    fn put_complete(&mut self) -> Result<(), Memory>
+        requires { self.old.output.is_ready ≡ true }
+        ensures ok { (complete : Back) → self.old.phase ≡ phases.Query complete → OnOk result (self.new.output.bytes ≡ self.old.output.bytes ++ spelled (complete ∷ [])) }
+        ensures err { OnErr result (self.new.output.bytes ≡ self.old.output.bytes) }
+        ensures ready { self.new.output.is_ready ≡ true }
+        ensures state { KeepsState self.old self.new }
+    {
+        match &self.phase {
+            Phase::Query(complete) => self.output.put(complete),
+            _ => Ok(()),
+        }
+    }
+
+    fn be_ready(&mut self)
+        ensures { IsReady self.old self.new }
+    {
+        self.phase = Phase::Ready;
+        self.transaction = Transaction::Idle;
+    }
+
+    pub fn end(&mut self)
+        ensures { IsEnded self.old self.new }
+    {
+        self.phase = Phase::Ended;
+        self.transaction = Transaction::Idle;
+    }
+}
