@@ -1,3 +1,4 @@
 pub mod Formed
+pub mod Gaps
 pub mod Refusals
 pub mod Variants
