@@ -1,19 +1,17 @@
 -- What is found of a row is found of those that are alike.
-use Rattle.std.proofs.Common.{◌≡◌, ◌≢◌, ℕ, ◌<◌, Bool, true, false, ◌&&◌, List, [], ◌∷◌, map, length, get_or, Option, Some, None, slice_get, refl, sym, ap, ◌∙◌, subst}
+use Rattle.std.proofs.Common.{◌≡◌, ◌&&◌, List, [], ◌∷◌, map, Option, Some, None, slice_get, refl, sym, ap, ◌∙◌, subst}
 use Rattle.std.specs.List.{All}
-use Rattle.std.specs.Option.{is_some}
 use Rattle.std.proofs.lemmas.List.Elements.{All-get_or}
 use Rattle.std.proofs.lemmas.Option.{slice_get_within, get_or_from_slice_get}
 use Rattle.feature_expr.specs.Satisfaction.{satisfies}
 use Rattle.feature_expr.specs.declared.expr.Expr.{Expr}
 use Rattle.feature_expr.specs.declared.value.Value.{Value}
-use Rattle.condition_sat.specs.Admitted.{IsAdmitted}
 use Rattle.vschema.specs.declared.catalog.Column.{Column}
 use Rattle.vschema.specs.declared.catalog.OpeningRow.{OpeningRow}
 use Rattle.vschema.specs.declared.catalog.Table.{Table}
-use Rattle.vschema.specs.Gaps.{columns_without, misses_value, is_column_there}
+use Rattle.vschema.specs.Gaps.{columns_without, is_column_there}
 use Rattle.vra_types.specs.Alike.{valued, AreAlike, HasAlike}
-use Rattle.vra_types.specs.Check.{Gap, RowGap, row_gaps, row_gaps_in, IsNowhere, AreNowhere}
+use Rattle.vra_types.specs.Check.{RowGap, row_gaps, row_gaps_in, IsNowhere, AreNowhere}
 
 same_without : (columns : List Column) (one other : List (Option Value)) → valued one ≡ valued other → columns_without columns one ≡ columns_without columns other
 same_without [] one other same = refl

@@ -1,11 +1,9 @@
 -- Gaps that are looked at one after another: what was looked at is nowhere, and what is left decides.
-use Rattle.std.proofs.Common.{◌≡◌, ℕ, ◌+◌, ◌<◌, List, [], ◌∷◌, ◌++◌, map, take, drop, length, get_or, refl, arith, ◌⊎◌, inl, inr}
-use Rattle.std.specs.List.{flat_map, AllByRecursion}
+use Rattle.std.proofs.Common.{List, [], ◌∷◌, ◌++◌, inl, inr}
 use Rattle.feature_expr.specs.declared.expr.Expr.{Expr}
-use Rattle.vschema.specs.declared.catalog.Table.{Table}
 use Rattle.vra_types.specs.declared.refused.CheckRefused.{CheckRefused}
 use Rattle.vra_types.specs.declared.refused.CheckRefused.TheVariants as refused
-use Rattle.vra_types.specs.Check.{Gap, IsNowhere, AreNowhere, Shows, ShowsFirst, RefusesGaps}
+use Rattle.vra_types.specs.Check.{Gap, AreNowhere, ShowsFirst, RefusesGaps}
 
 -- all gaps are judged as those that are left are
 pub record IsLeft (model : Expr) (all rest : List Gap) : Type 0 where

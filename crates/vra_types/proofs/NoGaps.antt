@@ -1,16 +1,16 @@
 -- A catalogue whose gaps are nowhere has none, and what a refusal of its parts says of the whole.
-use Rattle.std.proofs.Common.{◌≡◌, ℕ, Bool, true, false, not, ◌&&◌, ◌||◌, List, [], ◌∷◌, ◌++◌, map, Option, Some, None, slice_get, refl, sym, ap, ◌∙◌, inl, inr}
-use Rattle.std.specs.List.{list_any, list_all, flat_map}
+use Rattle.std.proofs.Common.{◌≡◌, ℕ, true, false, not, List, [], ◌∷◌, ◌++◌, map, Option, Some, None, slice_get, refl, ap, inl, inr}
+use Rattle.std.specs.List.{list_any, flat_map}
 use Rattle.feature_expr.specs.declared.expr.Expr.{Expr}
 use Rattle.condition_sat.specs.Admitted.{IsAdmitted}
 use Rattle.vschema.specs.declared.catalog.Catalog.{Catalog}
 use Rattle.vschema.specs.declared.catalog.Column.{Column}
 use Rattle.vschema.specs.declared.catalog.OpeningRow.{OpeningRow}
 use Rattle.vschema.specs.declared.catalog.Table.{Table}
-use Rattle.vschema.specs.Gaps.{lacks_columns, misses_value, columns_without, is_filled_in, is_filled, have_columns, are_filled}
+use Rattle.vschema.specs.Gaps.{lacks_columns, misses_value, columns_without, is_filled_in, are_filled}
 use Rattle.vra_types.specs.declared.refused.CheckRefused.{CheckRefused}
 use Rattle.vra_types.specs.declared.refused.CheckRefused.TheVariants as refused
-use Rattle.vra_types.specs.Check.{Gap, TableGap, RowGap, row_gaps, row_gaps_in, gaps_of, AreNowhere, ShowsFirst, RefusesGaps, Refuses, HasVariant, HasNoGaps, Passes}
+use Rattle.vra_types.specs.Check.{Gap, TableGap, RowGap, row_gaps, row_gaps_in, gaps_of, AreNowhere, ShowsFirst, RefusesGaps, Refuses, HasVariant, Passes}
 use Rattle.vra_types.proofs.Left.{refused_before, refused_behind}
 
 module _ (model : Expr) (c : List ℕ) (admitted : IsAdmitted model c) where

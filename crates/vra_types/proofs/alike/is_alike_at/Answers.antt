@@ -1,7 +1,6 @@
-use Rattle.std.proofs.Common.{◌≡◌, ◌<◌, true, length, refl, arith}
+use Rattle.std.proofs.Common.{length, refl, arith}
 use Rattle.std.proofs.lemmas.Bool.Decides.{nat_tests}
 use Rattle.std.proofs.lemmas.Option.{slice_get_read}
-use Rattle.vra_types.specs.Alike.{AreAlike, HasAlike}
 use Rattle.vra_types.proofs.alike.is_alike_at.Goals as goal
 
 pub returns-in-Some : goal.returns-in-Some

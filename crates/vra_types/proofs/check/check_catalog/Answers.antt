@@ -1,4 +1,3 @@
-use Rattle.std.proofs.Common.{◌≡◌}
 use Rattle.std.proofs.lemmas.Result.{err_from_is_err_and}
 use Rattle.vra_types.proofs.NoGaps.{passes, tables_refuse, rows_refuse}
 use Rattle.vra_types.proofs.check.check_catalog.Goals as goal

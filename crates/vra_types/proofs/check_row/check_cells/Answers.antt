@@ -1,4 +1,4 @@
-use Rattle.std.proofs.Common.{◌≡◌, ◌<◌, false, true, length, arith}
+use Rattle.std.proofs.Common.{arith}
 use Rattle.std.proofs.lemmas.Result.{err_from_is_err_and}
 use Rattle.vra_types.proofs.Steps.{valued_left, blank_left, blank_refused}
 use Rattle.vra_types.proofs.check_row.check_cells.Goals as goal

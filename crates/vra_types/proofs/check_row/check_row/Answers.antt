@@ -1,4 +1,4 @@
-use Rattle.std.proofs.Common.{◌≡◌, sym}
+use Rattle.std.proofs.Common.{sym}
 use Rattle.vra_types.proofs.check_row.check_row.Goals as goal
 
 pub returns-in-Some-clause-err : goal.returns-in-Some-clause-err

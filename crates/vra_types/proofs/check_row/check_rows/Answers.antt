@@ -1,4 +1,4 @@
-use Rattle.std.proofs.Common.{◌≡◌, ◌<◌, false, true, length, arith}
+use Rattle.std.proofs.Common.{arith}
 use Rattle.std.proofs.lemmas.Result.{err_from_is_err_and}
 use Rattle.vra_types.proofs.Steps.{row_left, row_refused, row_judged}
 use Rattle.vra_types.proofs.AlikeRows.{judged_alike}

@@ -1,6 +1,4 @@
-use Rattle.std.proofs.Common.{◌≡◌, ℕ, List}
-use Rattle.feature_expr.specs.Satisfaction.{satisfies}
-use Rattle.vra_types.specs.Check.{RowGap, is_gap}
+use Rattle.vra_types.specs.Check.{RowGap}
 use Rattle.vra_types.proofs.Found.{found_some, found_none}
 use Rattle.vra_types.proofs.check_row.missing_variant.Goals as goal
 

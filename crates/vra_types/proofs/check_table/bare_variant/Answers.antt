@@ -1,6 +1,4 @@
-use Rattle.std.proofs.Common.{◌≡◌, ℕ, List}
-use Rattle.feature_expr.specs.Satisfaction.{satisfies}
-use Rattle.vra_types.specs.Check.{TableGap, is_gap}
+use Rattle.vra_types.specs.Check.{TableGap}
 use Rattle.vra_types.proofs.Found.{found_some, found_none}
 use Rattle.vra_types.proofs.check_table.bare_variant.Goals as goal
 
