@@ -1,3 +1,6 @@
+pub mod Faults
 pub mod Formed
 pub mod Refusals
+pub mod Spelling
 pub mod Variants
+pub mod Words
