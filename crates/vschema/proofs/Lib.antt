@@ -1,1 +1,4 @@
-mod RefusalLaws
+pub mod EntryLaws
+pub mod HeadLaws
+pub mod RefusalLaws
+pub mod TableLaws

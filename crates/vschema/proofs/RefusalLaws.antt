@@ -1,10 +1,25 @@
 -- The reader's refusals.
-use Rattle.std.proofs.Common.{ℕ, List}
+use Rattle.std.proofs.Common.{◌≡◌, ℕ, List, refl}
+use Rattle.std.specs.Str.{IsUtf8}
+use Rattle.feature_expr.specs.Tokens.{AreTokens}
+use Rattle.feature_expr.specs.declared.token.Token.{Token}
+use Rattle.vschema.specs.Faults.{CatalogueFault}
+use Rattle.vschema.specs.declared.fault.CatalogFault.{CatalogFault}
+use Rattle.vschema.specs.declared.fault.CatalogFault.TheVariants as fault
 use Rattle.vschema.specs.declared.refused.CatalogRefused.{CatalogRefused}
-use Rattle.vschema.specs.declared.refused.CatalogRefused.TheVariants as refused
-use Rattle.vschema.specs.Refusals.{IsRefused, Refuses}
+use Rattle.vschema.specs.Refusals.{IsRefused, Refuses, refused_at}
 
-pub refuses : (why : CatalogRefused) (bytes : List ℕ) → Refuses why bytes
-unfolding IsRefused
-refuses refused.NotRead bytes = tt
-refuses refused.Memory bytes = tt
+pub is_refused : (text : List ℕ) (tokens : List Token) (f : CatalogFault) → IsUtf8 text → AreTokens text tokens → CatalogueFault text tokens f → IsRefused (refused_at text tokens f) text
+is_refused text tokens f utf8 are is = record { is_text = utf8; tokens = tokens; are_tokens = are; fault = f; is_fault = is; placed = refl }
+
+refuses : (text : List ℕ) (tokens : List Token) (f : CatalogFault) → IsRefused (refused_at text tokens f) text → Refuses (refused_at text tokens f) text
+refuses text tokens (fault.Syntax at) r = r
+refuses text tokens (fault.Duplicate at) r = r
+refuses text tokens (fault.UnknownFeature at) r = r
+refuses text tokens (fault.UnknownName at) r = r
+refuses text tokens (fault.WrongKind at) r = r
+refuses text tokens (fault.Limit at which) r = r
+refuses text tokens fault.Memory r = tt
+
+pub refused_text : (text : List ℕ) (tokens : List Token) (f : CatalogFault) (why : CatalogRefused) → IsUtf8 text → AreTokens text tokens → CatalogueFault text tokens f → why ≡ refused_at text tokens f → Refuses why text
+refused_text text tokens f why utf8 are is placed = rw placed (refuses text tokens f (is_refused text tokens f utf8 are is))

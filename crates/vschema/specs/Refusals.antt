@@ -1,14 +1,38 @@
 -- What a refusal of the catalogue's reader says of the bytes that it read.
-use Rattle.std.specs.Prelude.{ℕ, List}
+use Rattle.std.specs.Prelude.{◌≡◌, ℕ, List}
+use Rattle.std.specs.Str.{IsUtf8}
+use Rattle.std.specs.Str.Lossy.{utf8_valid_len}
+use Rattle.feature_expr.specs.Tokens.{AreTokens}
+use Rattle.feature_expr.specs.declared.token.Token.{Token}
+use Rattle.vschema.specs.Words.{line_number}
+use Rattle.vschema.specs.Faults.{CatalogueFault}
+use Rattle.vschema.specs.declared.fault.CatalogFault.{CatalogFault}
+use Rattle.vschema.specs.declared.fault.CatalogFault.TheVariants as fault
 use Rattle.vschema.specs.declared.refused.CatalogRefused.{CatalogRefused}
 use Rattle.vschema.specs.declared.refused.CatalogRefused.TheVariants as refused
 
--- The reader refused these bytes. Which texts those are isn't said yet, so no proof but the reader's own opens this
--- definition: whoever cites it has the fact from the reader.
-unfoldable pub IsRefused : List ℕ → Type 0
-IsRefused bytes = Unit {0}
+-- a fault with its line
+abbrev pub refused_at : List ℕ → List Token → CatalogFault → CatalogRefused
+refused_at text tokens (fault.Syntax at) = refused.Syntax (line_number text tokens at)
+refused_at text tokens (fault.Duplicate at) = refused.Duplicate (line_number text tokens at)
+refused_at text tokens (fault.UnknownFeature at) = refused.UnknownFeature (line_number text tokens at)
+refused_at text tokens (fault.UnknownName at) = refused.UnknownName (line_number text tokens at)
+refused_at text tokens (fault.WrongKind at) = refused.WrongKind (line_number text tokens at)
+refused_at text tokens (fault.Limit at which) = refused.Limit (line_number text tokens at) which
+refused_at text tokens fault.Memory = refused.Memory
 
--- what each refusal says; want of memory says nothing
+-- The bytes are text, and this is the first fault among its tokens, with its line.
+pub record IsRefused (why : CatalogRefused) (bytes : List ℕ) : Type 0 where
+  pub is_text : IsUtf8 bytes
+  pub tokens : List Token
+  pub are_tokens : AreTokens bytes tokens
+  pub fault : CatalogFault
+  pub is_fault : CatalogueFault bytes tokens fault
+  pub placed : why ≡ refused_at bytes tokens fault
+
+-- what each refusal says: the bytes aren't text, from this one on, or they have that first fault; want of memory says
+-- nothing
 abbrev pub Refuses : CatalogRefused → List ℕ → Type 0
-Refuses refused.NotRead bytes = IsRefused bytes
+Refuses (refused.Utf8 place) bytes = (IsUtf8 bytes → ⊥) × (place ≡ utf8_valid_len bytes)
 Refuses refused.Memory bytes = Unit {0}
+Refuses why bytes = IsRefused why bytes

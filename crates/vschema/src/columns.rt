@@ -1,4 +1,5 @@
-ghost use Rattle.std.specs.Prelude.{◌<◌, length, IfSome};
+ghost use Rattle.std.specs.Prelude.{◌≡◌, ◌<◌, length, IfSome};
+ghost use Rattle.vschema.specs.Spelling.{column_place};
 
 use crate::catalog::Column;
 use feature_expr::Name;
@@ -8,7 +9,8 @@ pub const COLUMN_LIMIT: usize = 64;
 
 /// The place of the column with this name.
 pub fn find_column(columns: &[Column], name: &Name) -> Option<usize>
-    ensures { IfSome result (λ place. place < length columns.now) }
+    ensures exact { result ≡ column_place name.now columns.now }
+    ensures within { IfSome result (λ place. place < length columns.now) }
 {
     columns.iter().position(|column| column.name == *name)
 }

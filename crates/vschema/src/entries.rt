@@ -1,99 +1,96 @@
-ghost use Rattle.std.specs.Prelude.{◌<◌, ◌≤◌, ◌+◌, length, IfOk};
+ghost use Rattle.std.specs.Prelude.{◌≡◌, ◌<◌, ◌≤◌, length, IfOk, IfErr};
+ghost use Rattle.vschema.specs.Spelling.{IsEntry, IsFresh, EntriesTo, tables_with, rows_with};
+ghost use Rattle.vschema.specs.Faults.{EntryFault, EntriesFault};
+ghost use Rattle.vschema.specs.declared.parse.TheConstants.{NESTING_LIMIT};
 
 use crate::catalog::{OpeningRow, Table};
+use crate::fault::CatalogFault;
 use crate::parse_row::parse_row;
 use crate::parse_table::parse_table;
-use crate::refused::CatalogRefused;
-use crate::words::folded_name_at;
-use feature_expr::{List, Name, Reading, is_word_at};
+use crate::tables::Tables;
+use crate::words::{Sign, stands};
+use feature_expr::{List, Memory, Reading};
 use std::alloc::Global;
-use std::collections::BTreeMap;
 
-/// The greatest number of tables.
-pub const TABLE_LIMIT: usize = 256;
-
-/// The tables and rows of a catalogue, with the tables' numbers by name.
+/// A part of a catalogue behind its head.
 #[derive(Drop)]
-pub struct Entries {
-    tables: Vec<Table>,
+pub enum Entry {
+    Table(Table),
+    Row(OpeningRow),
+}
+
+/// The tables and rows that were read.
+#[derive(Drop)]
+struct Entries {
+    tables: Tables,
     rows: Vec<OpeningRow>,
-    numbers: BTreeMap<Name, u32>,
 }
 
 impl Entries {
-    pub fn new(alloc: Global) -> Entries {
-        Entries {
-            tables: Vec::new(alloc),
-            rows: Vec::new(alloc),
-            numbers: BTreeMap::new(alloc),
-        }
-    }
-
-    pub fn into_lists(self) -> (List<Table>, List<OpeningRow>) {
-        let Entries {
-            tables,
-            rows,
-            numbers: _numbers,
-        } = self;
-        (List::from_vec(tables), List::from_vec(rows))
-    }
-
-    /// Reads tables and rows from a token on, up to the last token.
-    pub fn read_all(&mut self, reading: &Reading<'_>, from: usize) -> Result<(), CatalogRefused>
-        requires { from ≤ length reading.now.tokens.now }
+    fn with(self, alloc: Global, entry: Entry) -> Result<Entries, Memory>
+        requires { IsFresh self.tables.tables.items entry }
+        ensures tables { IfOk result (λ entries. entries.tables.tables.items ≡ tables_with self.tables.tables.items entry) }
+        ensures rows { IfOk result (λ entries. entries.rows.items ≡ rows_with self.rows.items entry) }
     {
-        let mut at = from;
-        'entries: while at < reading.tokens.len() {
-            at = self.read_one(reading, at)?;
-        }
-        Ok(())
-    }
-
-    /// Reads the table or the row that begins at a token, and answers the token behind it.
-    fn read_one(&mut self, reading: &Reading<'_>, at: usize) -> Result<usize, CatalogRefused>
-        requires { at < length reading.now.tokens.now }
-        ensures { IfOk result (λ end. (at < end) × (end ≤ length reading.now.tokens.now)) }
-    {
-        if is_word_at(reading, at, b"table") {
-            self.read_table(reading, at + 1)
-        } else if is_word_at(reading, at, b"row") {
-            self.read_row(reading, at)
-        } else {
-            Err(CatalogRefused::NotRead)
+        let Entries { tables, mut rows } = self;
+        match entry {
+            Entry::Table(table) => {
+                let tables = tables.with(alloc, table)?;
+                Ok(Entries { tables, rows })
+            }
+            Entry::Row(row) => {
+                rows.push(row)?;
+                Ok(Entries { tables, rows })
+            }
         }
     }
+}
 
-    fn read_table(&mut self, reading: &Reading<'_>, at: usize) -> Result<usize, CatalogRefused>
-        ensures { IfOk result (λ end. (at < end) × (end ≤ length reading.now.tokens.now)) }
-    {
-        if self.tables.len() >= TABLE_LIMIT {
-            return Err(CatalogRefused::NotRead);
-        }
-        let (table, end) = parse_table(reading, at)?;
-        let name = folded_name_at(reading, at)?;
-        if self.numbers.contains_key(&name) {
-            return Err(CatalogRefused::NotRead);
-        }
-        self.numbers.insert(name, self.tables.len() as u32)?;
-        self.tables.push(table)?;
-        Ok(end)
+/// The tables and rows from a token on, up to the last token.
+#[tactic(auto, using(crate::specs::Spelling::no_entry_yet, crate::specs::Spelling::another_entry, crate::proofs::EntryLaws::entries_refused))]
+pub fn parse_entries(
+    reading: &Reading<'_>,
+    from: usize,
+) -> Result<(List<Table>, List<OpeningRow>), CatalogFault>
+    requires within { from ≤ length reading.now.tokens.now }
+    requires limit { reading.now.max_nesting ≡ NESTING_LIMIT }
+    ensures spelled { IfOk result (λ found. EntriesTo reading.now.features.now reading.now.text.now reading.now.tokens.now from found.0 found.1 (length reading.now.tokens.now)) }
+    ensures refused { IfErr result (EntriesFault reading.now.features.now reading.now.text.now reading.now.tokens.now from) }
+{
+    let mut entries = Entries {
+        tables: Tables::new(reading.alloc),
+        rows: Vec::new(reading.alloc),
+    };
+    let mut at = from;
+    'entries: while at < reading.tokens.len() {
+        let (entry, end) = parse_entry(reading, at, &entries.tables)?;
+        entries = entries.with(reading.alloc, entry)?;
+        at = end;
     }
+    let Entries { tables, rows } = entries;
+    Ok((tables.into_list(), List::from_vec(rows)))
+}
 
-    /// Reads a row whose word `row` stands at a token.
-    fn read_row(&mut self, reading: &Reading<'_>, at: usize) -> Result<usize, CatalogRefused>
-        requires { at < length reading.now.tokens.now }
-        ensures { IfOk result (λ end. (at < end) × (end ≤ length reading.now.tokens.now)) }
-    {
-        let name = folded_name_at(reading, at + 1)?;
-        let Some(number) = self.numbers.get(&name).copied() else {
-            return Err(CatalogRefused::NotRead);
-        };
-        let Some(table) = self.tables.get(number as usize) else {
-            return Err(CatalogRefused::NotRead);
-        };
-        let line = reading.tokens[at].line;
-        let (row, end) = parse_row(reading, at + 2, number, table, line)?;
-        self.rows.push(row)?;
-        Ok(end)
+/// The table or the row that begins at a token, behind these tables, and the token behind it.
+#[tactic(auto, using(crate::specs::Faults::entry_memory, crate::specs::Faults::in_table, crate::specs::Faults::in_row, crate::specs::Faults::no_entry))]
+fn parse_entry(
+    reading: &Reading<'_>,
+    at: usize,
+    tables: &Tables,
+) -> Result<(Entry, usize), CatalogFault>
+    requires within { at < length reading.now.tokens.now }
+    requires limit { reading.now.max_nesting ≡ NESTING_LIMIT }
+    ensures within { IfOk result (λ found. (at < found.1) × (found.1 ≤ length reading.now.tokens.now)) }
+    ensures spelled { IfOk result (λ found. IsEntry reading.now.features.now reading.now.text.now reading.now.tokens.now tables.now.tables.items at found.0 found.1) }
+    ensures refused { IfErr result (EntryFault reading.now.features.now reading.now.text.now reading.now.tokens.now tables.now.tables.items at) }
+{
+    if stands(reading, at, Sign::Table) {
+        let (table, end) = parse_table(reading, at, tables)?;
+        Ok((Entry::Table(table), end))
+    } else if stands(reading, at, Sign::Row) {
+        let (row, end) = parse_row(reading, at, tables)?;
+        Ok((Entry::Row(row), end))
+    } else {
+        Err(CatalogFault::Syntax(at))
     }
 }

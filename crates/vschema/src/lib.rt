@@ -4,15 +4,18 @@
 mod catalog;
 mod columns;
 mod entries;
+mod fault;
 mod parse;
+mod parse_conditions;
 mod parse_features;
 mod parse_row;
 mod parse_table;
 mod refused;
+mod tables;
 #[cfg(test)]
 mod tests;
 mod words;
 
 pub use catalog::{Catalog, Column, OpeningRow, Table};
 pub use parse::parse_catalog;
-pub use refused::CatalogRefused;
+pub use refused::{CatalogRefused, Which};

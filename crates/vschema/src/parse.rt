@@ -1,54 +1,121 @@
-ghost use Rattle.std.specs.Prelude.{IfErr};
-ghost use Rattle.vschema.specs.Refusals.{Refuses};
+ghost use Rattle.std.specs.Prelude.{◌≡◌, ◌≤◌, [], length, IfOk, IfErr};
+ghost use Rattle.feature_expr.specs.Tokens.{AreTokens};
+ghost use Rattle.vschema.specs.Words.{line_number};
+ghost use Rattle.vschema.specs.Spelling.{IsCatalogue, SpellCatalogue};
+ghost use Rattle.vschema.specs.Faults.{CatalogueFault};
+ghost use Rattle.vschema.specs.Formed.{IsFormed};
+ghost use Rattle.vschema.specs.Refusals.{Refuses, refused_at};
 
 use crate::catalog::{Catalog, OpeningRow};
-use crate::entries::Entries;
+use crate::entries::parse_entries;
+use crate::fault::CatalogFault;
+use crate::parse_conditions::parse_model;
 use crate::parse_features::parse_features;
 use crate::refused::CatalogRefused;
-use feature_expr::{Expr, Features, List, Reading, tokens};
+use feature_expr::{Features, List, Reading, Token, end_line, tokens};
 use std::alloc::Global;
 use std::str;
 
 /// How deep brackets and `not` may nest in a catalogue.
-const NESTING_LIMIT: u32 = 64;
+pub const NESTING_LIMIT: u32 = 64;
 
 /// The catalogue that a file's bytes spell, and its opening rows in the file's order.
 ///
-/// So far a catalogue has no `model` line and no `when` on a table or a column, and each row names every column of
-/// its table once. It takes time in the number of bytes, but for look-ups of names.
-#[tactic(auto, using(crate::proofs::RefusalLaws::refuses))]
+/// It takes time in the number of bytes, but for look-ups of names.
 pub fn parse_catalog(
     alloc: Global,
     bytes: &[u8],
 ) -> Result<(Catalog, List<OpeningRow>), CatalogRefused>
-    ensures { IfErr result (λ why. Refuses why bytes.now) }
+    ensures spelled { IfOk result (λ found. IsCatalogue bytes.now found.0 found.1) }
+    ensures refused { IfErr result (λ why. Refuses why bytes.now) }
 {
-    let Ok(text) = str::from_utf8(bytes) else {
-        return Err(CatalogRefused::NotRead);
-    };
+    match str::from_utf8(bytes) {
+        Ok(text) => parse_text(alloc, text),
+        Err(error) => Err(CatalogRefused::Utf8(error.valid_up_to() as u64)),
+    }
+}
+
+#[tactic(auto, using(crate::proofs::RefusalLaws::refused_text))]
+fn parse_text(alloc: Global, text: &str) -> Result<(Catalog, List<OpeningRow>), CatalogRefused>
+    ensures spelled { IfOk result (λ found. IsCatalogue text.now found.0 found.1) }
+    ensures refused { IfErr result (λ why. Refuses why text.now) }
+{
     let tokens = tokens(alloc, text)?;
-    let Ok(no_features) = Features::new(List::new(alloc)) else {
-        return Err(CatalogRefused::NotRead);
-    };
+    match parse_tokens(alloc, text.as_bytes(), tokens.as_slice()) {
+        Ok(found) => Ok(found),
+        Err(fault) => Err(placed(fault, text, tokens.as_slice())),
+    }
+}
+
+/// The catalogue that all the tokens of a text spell.
+#[tactic(auto, using(crate::specs::Faults::catalogue_memory, crate::specs::Faults::in_head, crate::specs::Faults::at_model, crate::specs::Faults::in_entries))]
+fn parse_tokens(
+    alloc: Global,
+    text: &[u8],
+    tokens: &[Token],
+) -> Result<(Catalog, List<OpeningRow>), CatalogFault>
+    ensures spelled { IfOk result (λ found. SpellCatalogue text.now tokens.now found.0 found.1) }
+    ensures refused { IfErr result (CatalogueFault text.now tokens.now) }
+{
+    let no_features = no_features(alloc);
     let head = Reading {
         alloc,
-        text: bytes,
-        tokens: tokens.as_slice(),
+        text,
+        tokens,
         features: &no_features,
         max_nesting: NESTING_LIMIT,
     };
-    let (features, at) = parse_features(&head)?;
+    let (features, body) = parse_features(&head)?;
     let reading = Reading {
         features: &features,
         ..head
     };
-    let mut entries = Entries::new(alloc);
-    entries.read_all(&reading, at)?;
-    let (tables, rows) = entries.into_lists();
+    let (model, entries) = parse_model(&reading, body)?;
+    let (tables, rows) = parse_entries(&reading, entries)?;
     let catalog = Catalog {
         features,
-        model: Expr::True,
+        model,
         tables,
     };
     Ok((catalog, rows))
+}
+
+#[tactic(auto, unfolding(feature_expr::specs::Names::refusal))]
+fn no_features(alloc: Global) -> Features
+    ensures { result ≡ [] }
+{
+    match Features::new(List::new(alloc)) {
+        Ok(features) => features,
+        Err(_why) => unreachable!(),
+    }
+}
+
+/// A fault with its line.
+fn placed(fault: CatalogFault, text: &str, tokens: &[Token]) -> CatalogRefused
+    ensures { result ≡ refused_at text.now tokens.now fault }
+{
+    match fault {
+        CatalogFault::Syntax(at) => CatalogRefused::Syntax(token_line(text, tokens, at)),
+        CatalogFault::Duplicate(at) => CatalogRefused::Duplicate(token_line(text, tokens, at)),
+        CatalogFault::UnknownFeature(at) => {
+            CatalogRefused::UnknownFeature(token_line(text, tokens, at))
+        }
+        CatalogFault::UnknownName(at) => CatalogRefused::UnknownName(token_line(text, tokens, at)),
+        CatalogFault::WrongKind(at) => CatalogRefused::WrongKind(token_line(text, tokens, at)),
+        CatalogFault::Limit(at, which) => {
+            CatalogRefused::Limit(token_line(text, tokens, at), which)
+        }
+        CatalogFault::Memory => CatalogRefused::Memory,
+    }
+}
+
+/// The line of a token, or that of the text's end where there is none.
+#[tactic(auto, unfolding(crate::specs::Words::line_number))]
+fn token_line(text: &str, tokens: &[Token], at: usize) -> u64
+    ensures { result ≡ line_number text.now tokens.now at }
+{
+    match tokens.get(at) {
+        Some(token) => token.line,
+        None => end_line(text),
+    }
 }

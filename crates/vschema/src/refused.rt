@@ -1,52 +1,32 @@
-use feature_expr::{Fault, Memory};
-use std::alloc::{AllocError, AllocFailed};
+/// What a catalogue has more of than it may have.
+#[derive(Clone, Copy, Debug, PartialEq, Eq)]
+pub enum Which {
+    Features,
+    Tables,
+    Columns,
+}
 
-/// Why a file's bytes aren't a catalogue.
+/// Why a file's bytes aren't a catalogue: the first byte, from 0, that isn't UTF-8, or the first fault in reading
+/// order with its line, from 1.
 #[derive(Clone, Copy, Debug, PartialEq, Eq)]
 pub enum CatalogRefused {
-    NotRead,
+    Utf8(u64),
+    Syntax(u64),
+    Duplicate(u64),
+    UnknownFeature(u64),
+    UnknownName(u64),
+    WrongKind(u64),
+    Limit(u64, Which),
     Memory,
 }
 
-impl From<Memory> for CatalogRefused {
+impl From<feature_expr::Memory> for CatalogRefused {
     ghost use Rattle.std.specs.Prelude.{◌≡◌};
     ghost use Rattle.vschema.specs.declared.refused.CatalogRefused.TheVariants as refused;
 
     ghost from_gives = { λ _ given. given ≡ refused.Memory };
 
-    fn from(_memory: Memory) -> CatalogRefused {
-        CatalogRefused::Memory
-    }
-}
-
-/// A fault of an expression is one of the catalogue's.
-impl From<Fault> for CatalogRefused {
-    fn from(fault: Fault) -> CatalogRefused {
-        match fault {
-            Fault::Memory => CatalogRefused::Memory,
-            _ => CatalogRefused::NotRead,
-        }
-    }
-}
-
-impl From<AllocError> for CatalogRefused {
-    ghost use Rattle.std.specs.Prelude.{◌≡◌};
-    ghost use Rattle.vschema.specs.declared.refused.CatalogRefused.TheVariants as refused;
-
-    ghost from_gives = { λ _ given. given ≡ refused.Memory };
-
-    fn from(_failed: AllocError) -> CatalogRefused {
-        CatalogRefused::Memory
-    }
-}
-
-impl<T: Drop> From<AllocFailed<T>> for CatalogRefused {
-    ghost use Rattle.std.specs.Prelude.{◌≡◌};
-    ghost use Rattle.vschema.specs.declared.refused.CatalogRefused.TheVariants as refused;
-
-    ghost from_gives = { λ _ given. given ≡ refused.Memory };
-
-    fn from(_failed: AllocFailed<T>) -> CatalogRefused {
+    fn from(_memory: feature_expr::Memory) -> CatalogRefused {
         CatalogRefused::Memory
     }
 }

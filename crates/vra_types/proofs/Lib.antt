@@ -1,0 +1,5 @@
+mod AlikeRows
+mod Found
+mod Left
+mod NoGaps
+mod Steps

@@ -1,0 +1,42 @@
+ghost use Rattle.std.specs.Prelude.{◌≡◌, IfOk, IfErr, OnOk};
+ghost use Rattle.vra_types.specs.Check.{HasVariant, Passes, Refuses, RefusesModel};
+
+use crate::check_row::check_rows;
+use crate::check_table::check_tables;
+use crate::refused::CheckRefused;
+use condition_sat::Model;
+use feature_expr::{Expr, List, TryCopy};
+use std::alloc::Global;
+use vschema::{Catalog, OpeningRow};
+
+/// The feature model of a catalogue, where the catalogue has a variant and no gap in any of them. Else the first cause
+/// in this order: the model, the tables, the rows, and in a row its columns.
+///
+/// It asks whether conditions can hold together, once for rows that are alike, and goes through no variants.
+pub fn check_catalog(
+    alloc: Global,
+    catalog: &Catalog,
+    rows: &List<OpeningRow>,
+) -> Result<Model, CheckRefused>
+    ensures model { IfOk result (λ model. model ≡ catalog.now.model) }
+    ensures passes { OnOk result (Passes catalog.now rows.now) }
+    ensures refused { IfErr result (λ why. Refuses catalog.now rows.now why) }
+{
+    let expr = catalog.model.copy(alloc)?;
+    let model = Model::new(alloc, expr)?;
+    check_model(&model)?;
+    check_tables(alloc, &model, catalog.tables.as_slice())?;
+    check_rows(alloc, &model, catalog.tables.as_slice(), rows.as_slice())?;
+    Ok(model)
+}
+
+fn check_model(model: &Model) -> Result<(), CheckRefused>
+    ensures ok { OnOk result (HasVariant model.now) }
+    ensures err { IfErr result (λ why. RefusesModel model.now why) }
+{
+    let anything = Expr::True;
+    match model.find(&anything)? {
+        Some(_config) => Ok(()),
+        None => Err(CheckRefused::NoVariant),
+    }
+}

@@ -1,0 +1,124 @@
+ghost use Rattle.std.specs.Prelude.{◌≡◌, [], ◌∷◌, map, slice_get, IfOk, IfErr, IfSome, IfNone, OnOk};
+ghost use Rattle.std.specs.List.{flat_map};
+ghost use Rattle.std.specs.Option.{option_copied};
+ghost use Rattle.vschema.specs.Gaps.{columns_without, is_value};
+ghost use Rattle.vra_types.specs.Check.{RowGap, row_gaps, row_gaps_in, IsGapAt, IsNowhere, AreNowhere, RefusesGaps};
+
+use crate::alike::{fingerprint, is_alike_to_judged};
+use crate::refused::CheckRefused;
+use condition_sat::Model;
+use feature_expr::{Config, Memory, TryCopy, and};
+use std::alloc::Global;
+use std::collections::BTreeMap;
+use vschema::{Column, OpeningRow, Table};
+
+/// Looks for the first row, and in it for the first column, that are there in an admitted variant without a value.
+///
+/// Of rows that are alike only the first is judged. The places of judged rows are kept under their fingerprints, as a
+/// hint: the row at such a place is compared before it counts.
+pub fn check_rows(
+    alloc: Global,
+    model: &Model,
+    tables: &[Table],
+    rows: &[OpeningRow],
+) -> Result<(), CheckRefused>
+    ensures ok { OnOk result (AreNowhere model.now (flat_map (row_gaps tables.now) rows.now)) }
+    ensures err { IfErr result (λ why. RefusesGaps model.now (flat_map (row_gaps tables.now) rows.now) why) }
+{
+    let mut judged = BTreeMap::new(alloc);
+    for (place, row) in rows.iter().enumerate() {
+        let print = fingerprint(row);
+        if !is_alike_to_judged(&judged, print, &rows[..place], row) {
+            check_row(alloc, model, tables, row)?;
+            judged.insert(print, place)?;
+        }
+    }
+    Ok(())
+}
+
+fn check_row(
+    alloc: Global,
+    model: &Model,
+    tables: &[Table],
+    row: &OpeningRow,
+) -> Result<(), CheckRefused>
+    ensures ok { OnOk result (AreNowhere model.now (row_gaps tables.now row.now)) }
+    ensures err { IfErr result (λ why. RefusesGaps model.now (row_gaps tables.now row.now) why) }
+{
+    match table_of(tables, row.table) {
+        Some(table) => check_cells(alloc, model, table, row, table.columns.as_slice()),
+        None => Ok(()),
+    }
+}
+
+fn table_of(tables: &[Table], number: u32) -> Option<&Table>
+    ensures { option_copied result ≡ slice_get tables.now number }
+{
+    tables.get(number as usize)
+}
+
+/// The columns are those of the table. Only one without a value is asked about.
+fn check_cells(
+    alloc: Global,
+    model: &Model,
+    table: &Table,
+    row: &OpeningRow,
+    columns: &[Column],
+) -> Result<(), CheckRefused>
+    ensures ok { OnOk result (AreNowhere model.now (map (RowGap table.now row.now) (columns_without columns.now row.now.cells))) }
+    ensures err { IfErr result (λ why. RefusesGaps model.now (map (RowGap table.now row.now) (columns_without columns.now row.now.cells)) why) }
+{
+    for (place, column) in columns.iter().enumerate() {
+        if !has_value(row, place) {
+            check_cell(alloc, model, table, row, column)?;
+        }
+    }
+    Ok(())
+}
+
+fn has_value(row: &OpeningRow, place: usize) -> bool
+    ensures { result ≡ is_value (slice_get row.now.cells place) }
+{
+    match row.cells.get(place) {
+        Some(cell) => cell.is_some(),
+        None => false,
+    }
+}
+
+fn check_cell(
+    alloc: Global,
+    model: &Model,
+    table: &Table,
+    row: &OpeningRow,
+    column: &Column,
+) -> Result<(), CheckRefused>
+    ensures ok { OnOk result (IsNowhere model.now (RowGap table.now row.now column.now)) }
+    ensures err { IfErr result (λ why. RefusesGaps model.now (RowGap table.now row.now column.now ∷ []) why) }
+{
+    match missing_variant(alloc, model, table, row, column)? {
+        Some(config) => {
+            let name = column.name.copy(alloc)?;
+            Err(CheckRefused::MissingValue(row.line, name, config))
+        }
+        None => Ok(()),
+    }
+}
+
+/// An admitted variant in which the row and the column are there.
+fn missing_variant(
+    alloc: Global,
+    model: &Model,
+    table: &Table,
+    row: &OpeningRow,
+    column: &Column,
+) -> Result<Option<Config>, Memory>
+    ensures some { IfOk result (λ found. IfSome found (λ c. IsGapAt model.now (RowGap table.now row.now column.now) c)) }
+    ensures none { IfOk result (λ found. IfNone found (IsNowhere model.now (RowGap table.now row.now column.now))) }
+{
+    let with_table = table.cond.copy(alloc)?;
+    let with_row = row.cond.copy(alloc)?;
+    let with_column = column.cond.copy(alloc)?;
+    let there = and(alloc, with_table, with_row)?;
+    let missing = and(alloc, there, with_column)?;
+    model.find(&missing)
+}

@@ -1,0 +1,15 @@
+#!/bin/sh
+# Runs the built program on each example of CATALOGUE.md and on the files in examples/, and fails where one doesn't do
+# what the page says. It skips where the program isn't built or Python is missing.
+set -eu
+top=$(cd "$(dirname "$0")/.." && pwd)
+program=$top/crates/vdb_server/out/vdb_server
+if [ ! -x "$program" ]; then
+  echo "examples: skipped, $program isn't built" >&2
+  exit 0
+fi
+if ! command -v python3 > /dev/null; then
+  echo "examples: skipped, there is no python3" >&2
+  exit 0
+fi
+exec python3 "$top/docs/run_examples.py" "$top" "$program"
