@@ -1,6 +1,10 @@
-ghost use Rattle.std.specs.Prelude.{◌≡◌, ◌≤◌, [], true, length};
-ghost use Rattle.session_poll.specs.Session.{waiting_of};
-ghost use Rattle.vdb_server.specs.Replays.{IsReplayExit, PutsAll};
+ghost use Rattle.std.specs.Prelude.{◌≡◌, ◌<◌, ◌≤◌, [], true, false, length, Option, List, ℕ, IfSome, IfNone};
+ghost use Rattle.causes.specs.Faults.{Rose};
+ghost use Rattle.session_poll.specs.Runs.{IsAt};
+ghost use Rattle.session_poll.specs.Servable.{IsServable};
+ghost use Rattle.session_poll.specs.Session.{waiting_of, is_over};
+ghost use Rattle.vdb_server.specs.Replays.{GoesOn, IsReplayExit, PutsAll, Replays, ReplaysAll, Stops};
+ghost use Rattle.vdb_server.specs.declared.exit.Exit.TheVariants as exit;
 
 use crate::exit::Exit;
 use crate::sink::{Sink, SinkPut};
@@ -15,8 +19,12 @@ const CUT: usize = 4_096;
 const WAITING_LIMIT: usize = 65_536;
 
 /// Runs one session over a stream of bytes, up to its end or to the session's, and puts out what it answers.
+#[tactic(auto, using(crate::proofs::ReplayLaws::replays_nothing))]
 pub fn replay<O: Sink>(alloc: Global, opening: &Opening, stream: &[u8], out: &mut O) -> Exit
-    ensures { IsReplayExit result (O.held out.old) (O.held out.new) }
+    requires { IsServable opening.now }
+    ensures ends { IsReplayExit result (O.held out.old) (O.held out.new) }
+    ensures replays { Replays opening.now stream.now (O.held out.old).bytes (O.held out.new).bytes }
+    ensures all { result ≡ exit.Done → ReplaysAll opening.now stream.now (O.held out.old).bytes (O.held out.new).bytes }
 {
     let mut session = match Session::open(alloc) {
         Ok(session) => session,
@@ -27,30 +35,61 @@ pub fn replay<O: Sink>(alloc: Global, opening: &Opening, stream: &[u8], out: &mu
     exit
 }
 
+#[tactic(auto, using(crate::proofs::ReplayLaws::replays_so_far, crate::proofs::ReplayLaws::closed_all, crate::proofs::ReplayLaws::all_replays))]
 fn drive<O: Sink>(session: &mut Session, opening: &Opening, stream: &[u8], out: &mut O) -> Exit
-    ensures { IsReplayExit result (O.held out.old) (O.held out.new) }
+    requires servable { IsServable opening.now }
+    requires first { IsAt opening.now [] [] [] session.old }
+    requires over { is_over session.old ≡ false }
+    ensures ends { IsReplayExit result (O.held out.old) (O.held out.new) }
+    ensures replays { Replays opening.now stream.now (O.held out.old).bytes (O.held out.new).bytes }
+    ensures all { result ≡ exit.Done → ReplaysAll opening.now stream.now (O.held out.old).bytes (O.held out.new).bytes }
 {
     let mut fed: usize = 0;
     'turns: for _ in 0..u64::MAX {
         let polled = session.poll(opening);
-        let is_full = polled == Polled::Again && session.waiting() >= WAITING_LIMIT;
-        if is_full || polled == Polled::NeedOutput {
-            if !put_waiting(session, out) {
-                return Exit::WriteFault;
-            }
-        } else if polled == Polled::NeedInput {
-            fed = feed_on(session, stream, fed);
-        } else if polled == Polled::Closed {
+        if polled == Polled::Closed {
             return Exit::Done;
+        }
+        match follow(session, polled, stream, fed, out) {
+            Some(next) => fed = next,
+            None => return Exit::WriteFault,
         }
     }
     Exit::Memory
 }
 
+/// Does what a poll asks for, and answers how many bytes were fed then. None: the sink failed.
+#[tactic(auto, using(crate::proofs::ReplayLaws::same_on))]
+fn follow<O: Sink>(
+    session: &mut Session,
+    polled: Polled,
+    stream: &[u8],
+    fed: usize,
+    out: &mut O,
+) -> Option<usize>
+    requires { fed ≤ length stream.now }
+    ensures within { IfSome result (λ next. next ≤ length stream.now) }
+    ensures on { IfSome result (λ next. GoesOn stream.now fed (O.held out.old).bytes session.old next (O.held out.new).bytes session.new) }
+    ensures stops { IfNone result (Stops stream.now fed (O.held out.old).bytes session.old (O.held out.new).bytes) }
+    ensures fault { IfNone result (Rose (O.held out.old).faults (O.held out.new).faults) }
+    ensures later { (O.held out.old).faults ≤ (O.held out.new).faults }
+{
+    match polled {
+        Polled::NeedOutput => put_waiting(session, stream, fed, out),
+        Polled::NeedInput => Some(feed_on(session, stream, fed)),
+        Polled::Again if session.waiting() >= WAITING_LIMIT => {
+            put_waiting(session, stream, fed, out)
+        }
+        _ => Some(fed),
+    }
+}
+
 /// Feeds the next piece of a stream, or tells the session that it has ended, and answers how many bytes were fed.
+#[tactic(auto, using(crate::proofs::ReplayLaws::fed_on, crate::proofs::ReplayLaws::ended_on))]
 fn feed_on(session: &mut Session, stream: &[u8], fed: usize) -> usize
     requires { fed ≤ length stream.now }
-    ensures { result ≤ length stream.now }
+    ensures within { result ≤ length stream.now }
+    ensures on { (now : Option (List ℕ)) → GoesOn stream.now fed now session.old result now session.new }
 {
     let (_, left) = stream.split_at(fed);
     if left.is_empty() {
@@ -61,22 +100,32 @@ fn feed_on(session: &mut Session, stream: &[u8], fed: usize) -> usize
     fed + session.feed(piece)
 }
 
-/// Puts out all that a session has for the client. False: the sink failed.
-fn put_waiting<O: Sink>(session: &mut Session, out: &mut O) -> bool
-    ensures put { PutsAll (waiting_of session.old) result (O.held out.old) (O.held out.new) }
-    ensures taken { result ≡ true → waiting_of session.new ≡ [] }
+/// Puts out all that a session has for the client. None: the sink failed.
+#[tactic(auto, using(crate::proofs::ReplayLaws::sent_on, crate::proofs::ReplayLaws::stops_in))]
+fn put_waiting<O: Sink>(
+    session: &mut Session,
+    stream: &[u8],
+    fed: usize,
+    out: &mut O,
+) -> Option<usize>
+    ensures same { IfSome result (λ next. next ≡ fed) }
+    ensures on { IfSome result (λ next. GoesOn stream.now fed (O.held out.old).bytes session.old fed (O.held out.new).bytes session.new) }
+    ensures stops { IfNone result (Stops stream.now fed (O.held out.old).bytes session.old (O.held out.new).bytes) }
+    ensures fault { IfNone result (Rose (O.held out.old).faults (O.held out.new).faults) }
+    ensures later { (O.held out.old).faults ≤ (O.held out.new).faults }
 {
-    let is_put = put_all(session.bytes(), out);
-    if is_put {
-        session.take(session.waiting());
+    if !put_all(session.bytes(), out) {
+        return None;
     }
-    is_put
+    session.take(session.waiting());
+    Some(fed)
 }
 
 /// Puts out a whole piece. False: the sink failed.
-#[tactic(auto, using(crate::proofs::Pieces::pieces))]
-fn put_all<O: Sink>(piece: &[u8], out: &mut O) -> bool
-    ensures { PutsAll piece.now result (O.held out.old) (O.held out.new) }
+#[tactic(auto, using(crate::proofs::Pieces::pieces, crate::proofs::ReplayLaws::front_none, crate::proofs::ReplayLaws::front_rest))]
+pub fn put_all<O: Sink>(piece: &[u8], out: &mut O) -> bool
+    ensures put { PutsAll piece.now result (O.held out.old) (O.held out.new) }
+    ensures later { (O.held out.old).faults ≤ (O.held out.new).faults }
 {
     let mut rest = piece;
     'pieces: while !rest.is_empty() {

@@ -1,0 +1,32 @@
+-- What a replay of a file over a catalogue has put out, from what the session's drive did.
+use Rattle.std.proofs.Common.{◌≡◌, ℕ, true, List, inl, inr, ◌⊎◌, refl}
+use Rattle.causes.specs.Told.{IsContent}
+use Rattle.session_poll.specs.Servable.{IsServable}
+use Rattle.session_poll.specs.declared.opening.Opening.{Opening}
+use Rattle.vschema.specs.Formed.{IsFormed}
+use Rattle.vdb_server.specs.Checks.{IsCheckedFile}
+use Rattle.vdb_server.specs.Replays.{IsReplayExit, Replays, ReplaysAll}
+use Rattle.vdb_server.specs.Replayed.{IsReplayed, IsReplayedWhole, IsReplayedExit}
+use Rattle.vdb_server.specs.Sinks.{Held}
+use Rattle.vdb_server.specs.Sources.{Files}
+use Rattle.vdb_server.specs.declared.exit.Exit.{Exit}
+use Rattle.vdb_server.specs.declared.exit.Exit.TheVariants as exit
+
+-- a session may be opened over a catalogue that was read and passed its check
+pub servable : (files : Files) (name : List ℕ) (opening : Opening) → IsFormed opening.catalog opening.rows → IsCheckedFile files name opening.catalog opening.rows → IsServable opening
+servable files name opening formed checked = record { formed = formed; filled = checked.passes.no_gaps.values }
+
+pub replayed : (files : Files) (catalogue stream : List ℕ) (opening : Opening) (bytes : List ℕ) (result : Exit) (before after : Held) → IsCheckedFile files catalogue opening.catalog opening.rows → IsContent files.contents stream bytes → IsReplayExit result before after → Replays opening bytes before.bytes after.bytes → (result ≡ exit.Done → ReplaysAll opening bytes before.bytes after.bytes) → IsReplayedExit files catalogue stream result before after
+replayed files catalogue stream opening bytes exit.Done before after checked content ends begun all =
+    record { opening = opening; checked = checked; bytes = bytes; content = content; replays = all refl }
+replayed files catalogue stream opening bytes exit.WriteFault before after checked content ends begun all =
+    record { opening = opening; checked = checked; bytes = bytes; content = content; replays = begun }
+replayed files catalogue stream opening bytes exit.Memory before after checked content ends begun all =
+    inr (record { opening = opening; checked = checked; bytes = bytes; content = content; replays = begun })
+replayed files catalogue stream opening bytes exit.Usage before after checked content ends begun all = absurd ends
+replayed files catalogue stream opening bytes (exit.Catalogue why) before after checked content ends begun all = absurd ends
+replayed files catalogue stream opening bytes exit.ReadFault before after checked content ends begun all = absurd ends
+replayed files catalogue stream opening bytes exit.LinksFault before after checked content ends begun all = absurd ends
+replayed files catalogue stream opening bytes exit.TurnsOut before after checked content ends begun all = absurd ends
+replayed files catalogue stream opening bytes exit.TooLong before after checked content ends begun all = absurd ends
+replayed files catalogue stream opening bytes exit.KeeperFault before after checked content ends begun all = absurd ends
