@@ -1,9 +1,10 @@
 -- How the program ends: the statuses, the lines, and the cause of each exit.
-use Rattle.std.specs.Prelude.{◌≡◌, ℕ, ◌≤◌, ◌⊎◌, Bool, false, List, [], ◌∷◌, codes, length}
+use Rattle.std.specs.Prelude.{◌≡◌, ℕ, ◌≤◌, ◌⊎◌, Bool, false, List, [], ◌∷◌, ◌++◌, codes, decimal, length}
 use Rattle.std.specs.Str.{bytes_eq}
 use Rattle.causes.specs.Faults.{Rose}
 use Rattle.causes.specs.Told.{IsContent}
-use Rattle.vschema.specs.Refusals.{IsRefused}
+use Rattle.vschema.specs.Refusals.{Refuses}
+use Rattle.vschema.specs.declared.refused.CatalogRefused.{CatalogRefused}
 use Rattle.vschema.specs.declared.refused.CatalogRefused.TheVariants as refused
 use Rattle.vdb_server.specs.Sinks.{Held}
 use Rattle.vdb_server.specs.Sources.{Files, IsLong}
@@ -25,18 +26,38 @@ status_of exit.Memory = 7
 status_of exit.TooLong = 8
 status_of exit.KeeperFault = 9
 
+-- the line of an exit that names no place
+abbrev pub plain_line_of : Exit → List ℕ
+plain_line_of exit.Done = []
+plain_line_of exit.Usage = codes "usage"
+plain_line_of (exit.Catalogue why) = codes "catalogue"
+plain_line_of exit.ReadFault = codes "read fault"
+plain_line_of exit.WriteFault = codes "write fault"
+plain_line_of exit.LinksFault = codes "links fault"
+plain_line_of exit.TurnsOut = codes "turns out"
+plain_line_of exit.Memory = codes "out of memory"
+plain_line_of exit.TooLong = codes "file too long"
+plain_line_of exit.KeeperFault = codes "keeper fault"
+
+-- a fault of the catalogue at a place
+abbrev pub place_line : List ℕ → ℕ → List ℕ → List ℕ
+place_line what place fault = codes "catalogue: " ++ what ++ decimal place ++ fault
+
+-- the line for a catalogue that was refused
+abbrev pub catalogue_line : CatalogRefused → List ℕ
+catalogue_line (refused.Utf8 place) = place_line (codes "byte ") place (codes ": not UTF-8")
+catalogue_line (refused.Syntax line) = place_line (codes "line ") line (codes ": syntax")
+catalogue_line (refused.Duplicate line) = place_line (codes "line ") line (codes ": duplicate")
+catalogue_line (refused.UnknownFeature line) = place_line (codes "line ") line (codes ": unknown feature")
+catalogue_line (refused.UnknownName line) = place_line (codes "line ") line (codes ": unknown name")
+catalogue_line (refused.WrongKind line) = place_line (codes "line ") line (codes ": wrong kind")
+catalogue_line (refused.Limit line which) = place_line (codes "line ") line (codes ": limit")
+catalogue_line refused.Memory = codes "out of memory"
+
 -- the line for standard error
 abbrev pub line_of : Exit → List ℕ
-line_of exit.Done = []
-line_of exit.Usage = codes "usage"
-line_of (exit.Catalogue why) = codes "catalogue: refused"
-line_of exit.ReadFault = codes "read fault"
-line_of exit.WriteFault = codes "write fault"
-line_of exit.LinksFault = codes "links fault"
-line_of exit.TurnsOut = codes "turns out"
-line_of exit.Memory = codes "out of memory"
-line_of exit.TooLong = codes "file too long"
-line_of exit.KeeperFault = codes "keeper fault"
+line_of (exit.Catalogue (fault.Parse why)) = catalogue_line why
+line_of other = plain_line_of other
 
 -- whether the words are `replay` and the names of two files
 abbrev pub is_replay : List (List ℕ) → Bool
@@ -54,8 +75,8 @@ stream_name _ = []
 
 -- the reader's own refusal of these bytes
 abbrev pub RefusedFor : CatalogueFault → List ℕ → Type 0
-RefusedFor (fault.Parse refused.NotRead) bytes = IsRefused bytes
 RefusedFor (fault.Parse refused.Memory) bytes = ⊥
+RefusedFor (fault.Parse why) bytes = Refuses why bytes
 
 -- the file has a content within the limit, where the contents are told
 pub record IsReadable (files : Files) (name : List ℕ) : Type 0 where

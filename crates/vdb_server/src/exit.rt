@@ -1,7 +1,8 @@
 ghost use Rattle.std.specs.Prelude.{◌≡◌, IfOk};
-ghost use Rattle.vdb_server.specs.Exits.{status_of, line_of};
+ghost use Rattle.vdb_server.specs.Exits.{status_of, line_of, plain_line_of, catalogue_line, place_line};
 
 use feature_expr::{Memory, Text};
+use itoa::Buffer;
 use std::alloc::Global;
 use vschema::CatalogRefused;
 
@@ -48,16 +49,50 @@ pub fn status(exit: &Exit) -> u8
 pub fn fault_line(alloc: Global, exit: &Exit) -> Result<Text, Memory>
     ensures { IfOk result (λ line. line ≡ line_of exit.now) }
 {
-    Text::from_slice(alloc, fault_text(exit))
+    match exit {
+        Exit::Catalogue(CatalogueFault::Parse(why)) => catalogue_line(alloc, why),
+        other => Text::from_slice(alloc, plain_line(other)),
+    }
 }
 
-fn fault_text(exit: &Exit) -> &'static [u8]
-    ensures { result.now ≡ line_of exit.now }
+/// The line for a catalogue that was refused.
+fn catalogue_line(alloc: Global, why: &CatalogRefused) -> Result<Text, Memory>
+    ensures { IfOk result (λ line. line ≡ catalogue_line why.now) }
+{
+    match why {
+        CatalogRefused::Utf8(place) => place_line(alloc, b"byte ", *place, b": not UTF-8"),
+        CatalogRefused::Syntax(line) => place_line(alloc, b"line ", *line, b": syntax"),
+        CatalogRefused::Duplicate(line) => place_line(alloc, b"line ", *line, b": duplicate"),
+        CatalogRefused::UnknownFeature(line) => {
+            place_line(alloc, b"line ", *line, b": unknown feature")
+        }
+        CatalogRefused::UnknownName(line) => place_line(alloc, b"line ", *line, b": unknown name"),
+        CatalogRefused::WrongKind(line) => place_line(alloc, b"line ", *line, b": wrong kind"),
+        CatalogRefused::Limit(line, _which) => place_line(alloc, b"line ", *line, b": limit"),
+        CatalogRefused::Memory => Text::from_slice(alloc, b"out of memory"),
+    }
+}
+
+/// The line for a fault of the catalogue at a place.
+fn place_line(alloc: Global, what: &[u8], place: u64, fault: &[u8]) -> Result<Text, Memory>
+    ensures { IfOk result (λ line. line ≡ place_line what.now place fault.now) }
+{
+    let mut buffer = Buffer::new();
+    let mut line = Vec::from_slice(alloc, b"catalogue: ")?;
+    line.extend_from_slice(what)?;
+    line.extend_from_slice(buffer.format(place).as_bytes())?;
+    line.extend_from_slice(fault)?;
+    Ok(Text::from_vec(line))
+}
+
+/// The line of an exit that names no place.
+fn plain_line(exit: &Exit) -> &'static [u8]
+    ensures { result.now ≡ plain_line_of exit.now }
 {
     match exit {
         Exit::Done => b"",
         Exit::Usage => b"usage",
-        Exit::Catalogue(_) => b"catalogue: refused",
+        Exit::Catalogue(_) => b"catalogue",
         Exit::ReadFault => b"read fault",
         Exit::WriteFault => b"write fault",
         Exit::LinksFault => b"links fault",

@@ -5,7 +5,7 @@ use crate::tool::{FILE_LIMIT, run_tool};
 use feature_expr::{List, Memory, Text};
 use std::alloc::{AllocError, Global};
 use std::test::Fail;
-use vschema::CatalogRefused;
+use vschema::{CatalogRefused, Which};
 
 const CATALOGUE: &[u8] =
     b"features A;\ntable t (id int8, name text);\nrow t (id 1, name 'ann');\nrow t (id 2, name 'bob') when A;\n";
@@ -137,8 +137,8 @@ fn a_fault_ends_the_program_with_its_exit(rt: HostRuntime) -> Result<(), Fail> {
     let run = |catalogue: &[u8], reads: &[u64], puts: &[u64]| {
         replayed(rt.alloc(), catalogue, START_UP, reads, puts)
     };
-    let refused = Exit::Catalogue(CatalogueFault::Parse(CatalogRefused::NotRead));
-    assert_eq!(rt; run(b"features", &[], &[])?.0, refused);
+    let refused = Exit::Catalogue(CatalogueFault::Parse(CatalogRefused::Syntax(2)));
+    assert_eq!(rt; run(b"features\n", &[], &[])?.0, refused);
     assert_eq!(rt; run(CATALOGUE, &[0], &[])?.0, Exit::ReadFault);
     assert_eq!(rt; run(CATALOGUE, &[1], &[])?.0, Exit::ReadFault);
     let (exit, out) = run(CATALOGUE, &[], &[0])?;
@@ -176,15 +176,45 @@ fn a_file_above_the_limit_is_too_long(rt: HostRuntime) -> Result<(), Fail> {
 }
 
 #[test]
+fn a_refused_catalogue_has_its_line(rt: HostRuntime) -> Result<(), Fail> {
+    let refusals: [(CatalogRefused, &[u8]); 7] = [
+        (CatalogRefused::Utf8(0), b"catalogue: byte 0: not UTF-8"),
+        (CatalogRefused::Syntax(3), b"catalogue: line 3: syntax"),
+        (
+            CatalogRefused::Duplicate(10),
+            b"catalogue: line 10: duplicate",
+        ),
+        (
+            CatalogRefused::UnknownFeature(1),
+            b"catalogue: line 1: unknown feature",
+        ),
+        (
+            CatalogRefused::UnknownName(99),
+            b"catalogue: line 99: unknown name",
+        ),
+        (
+            CatalogRefused::WrongKind(5),
+            b"catalogue: line 5: wrong kind",
+        ),
+        (
+            CatalogRefused::Limit(65, Which::Columns),
+            b"catalogue: line 65: limit",
+        ),
+    ];
+    for (why, line) in refusals {
+        let exit = Exit::Catalogue(CatalogueFault::Parse(why));
+        let told = fault_line(rt.alloc(), &exit).map_err(|_| "memory")?;
+        assert_eq!(rt; told.as_slice(), line);
+        assert_eq!(rt; status(&exit), 2);
+    }
+    Ok(())
+}
+
+#[test]
 fn each_exit_has_its_status_and_line(rt: HostRuntime) -> Result<(), Fail> {
-    let exits: [(Exit, u8, &[u8]); 10] = [
+    let exits: [(Exit, u8, &[u8]); 9] = [
         (Exit::Done, 0, b""),
         (Exit::Usage, 1, b"usage"),
-        (
-            Exit::Catalogue(CatalogueFault::Parse(CatalogRefused::NotRead)),
-            2,
-            b"catalogue: refused",
-        ),
         (Exit::ReadFault, 3, b"read fault"),
         (Exit::WriteFault, 4, b"write fault"),
         (Exit::LinksFault, 5, b"links fault"),

@@ -89,9 +89,7 @@ fn read_opening<F: Source>(alloc: Global, name: &str, files: &mut F) -> Result<O
     match parse_catalog(alloc, bytes.as_slice()) {
         Ok((catalog, rows)) => Ok(Opening { catalog, rows }),
         Err(CatalogRefused::Memory) => Err(Exit::Memory),
-        Err(CatalogRefused::NotRead) => {
-            Err(Exit::Catalogue(CatalogueFault::Parse(CatalogRefused::NotRead)))
-        }
+        Err(why) => Err(Exit::Catalogue(CatalogueFault::Parse(why))),
     }
 }
 
