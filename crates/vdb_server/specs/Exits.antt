@@ -6,6 +6,13 @@ use Rattle.causes.specs.Told.{IsContent}
 use Rattle.vschema.specs.Refusals.{Refuses}
 use Rattle.vschema.specs.declared.refused.CatalogRefused.{CatalogRefused}
 use Rattle.vschema.specs.declared.refused.CatalogRefused.TheVariants as refused
+use Rattle.vschema.specs.Spelling.{IsCatalogue}
+use Rattle.vschema.specs.declared.catalog.Catalog.{Catalog}
+use Rattle.vschema.specs.declared.catalog.OpeningRow.{OpeningRow}
+use Rattle.vra_types.specs.Check as check
+use Rattle.vra_types.specs.declared.refused.CheckRefused.{CheckRefused}
+use Rattle.vra_types.specs.declared.refused.CheckRefused.TheVariants as unpassed
+use Rattle.vdb_server.specs.CheckLines.{check_line_of}
 use Rattle.vdb_server.specs.Sinks.{Held}
 use Rattle.vdb_server.specs.Sources.{Files, IsLong}
 use Rattle.vdb_server.specs.declared.tool.TheConstants.{FILE_LIMIT}
@@ -57,6 +64,7 @@ catalogue_line refused.Memory = codes "out of memory"
 -- the line for standard error
 abbrev pub line_of : Exit → List ℕ
 line_of (exit.Catalogue (fault.Parse why)) = catalogue_line why
+line_of (exit.Catalogue (fault.Check why catalog)) = check_line_of catalog.features why
 line_of other = plain_line_of other
 
 -- whether the words are `replay` and the names of two files
@@ -73,10 +81,23 @@ abbrev pub stream_name : List (List ℕ) → List ℕ
 stream_name (command ∷ catalogue ∷ stream ∷ rest) = stream
 stream_name _ = []
 
--- the reader's own refusal of these bytes
+-- whether the words are `check` and the name of a file
+abbrev pub is_check : List (List ℕ) → Bool
+is_check (command ∷ catalogue ∷ []) = bytes_eq command (codes "check")
+is_check _ = false
+
+-- the bytes are this catalogue with opening rows, and this is why they don't pass their check
+pub record IsUnpassed (bytes : List ℕ) (catalog : Catalog) (why : CheckRefused) : Type 0 where
+  pub rows : List OpeningRow
+  pub spelled : IsCatalogue bytes catalog rows
+  pub refused : check.Refuses catalog rows why
+
+-- why these bytes aren't taken: the reader's own refusal, or that of the check; want of memory is no such reason
 abbrev pub RefusedFor : CatalogueFault → List ℕ → Type 0
 RefusedFor (fault.Parse refused.Memory) bytes = ⊥
 RefusedFor (fault.Parse why) bytes = Refuses why bytes
+RefusedFor (fault.Check unpassed.Memory catalog) bytes = ⊥
+RefusedFor (fault.Check why catalog) bytes = IsUnpassed bytes catalog why
 
 -- the file has a content within the limit, where the contents are told
 pub record IsReadable (files : Files) (name : List ℕ) : Type 0 where
@@ -84,7 +105,7 @@ pub record IsReadable (files : Files) (name : List ℕ) : Type 0 where
   pub content : IsContent files.contents name bytes
   pub within : length bytes ≤ FILE_LIMIT
 
--- the file was read whole, and the reader refused its bytes for another cause than memory
+-- the file was read whole, and its bytes were refused for another cause than memory
 pub record IsRefusedFile (files : Files) (name : List ℕ) (why : CatalogueFault) : Type 0 where
   pub bytes : List ℕ
   pub content : IsContent files.contents name bytes

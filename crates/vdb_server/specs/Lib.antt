@@ -1,3 +1,5 @@
+pub mod CheckLines
+pub mod Checks
 pub mod Exits
 pub mod MemFiles
 pub mod MemSinks

@@ -1,19 +1,23 @@
 ghost use Rattle.std.specs.Prelude.{◌≡◌, IfOk};
 ghost use Rattle.vdb_server.specs.Exits.{status_of, line_of, plain_line_of, catalogue_line, place_line};
 
+use crate::check_line::line_of_unpassed;
 use feature_expr::{Memory, Text};
 use itoa::Buffer;
 use std::alloc::Global;
-use vschema::CatalogRefused;
+use vra_types::CheckRefused;
+use vschema::{Catalog, CatalogRefused};
 
-/// Why a catalogue isn't taken.
-#[derive(Clone, Copy, Debug, PartialEq, Eq)]
+/// Why a catalogue isn't taken. Neither refusal is want of memory.
+#[derive(Drop)]
 pub enum CatalogueFault {
     Parse(CatalogRefused),
+    /// With the catalogue, whose features have the names that are told.
+    Check(CheckRefused, Catalog),
 }
 
 /// How the program ends.
-#[derive(Clone, Copy, Debug, PartialEq, Eq)]
+#[derive(Drop)]
 pub enum Exit {
     Done,
     Usage,
@@ -51,6 +55,9 @@ pub fn fault_line(alloc: Global, exit: &Exit) -> Result<Text, Memory>
 {
     match exit {
         Exit::Catalogue(CatalogueFault::Parse(why)) => catalogue_line(alloc, why),
+        Exit::Catalogue(CatalogueFault::Check(why, catalog)) => {
+            line_of_unpassed(alloc, why, &catalog.features)
+        }
         other => Text::from_slice(alloc, plain_line(other)),
     }
 }

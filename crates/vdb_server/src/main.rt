@@ -1,6 +1,7 @@
 //! The program: it makes the real objects, runs the command that its words name, and tells how it ended.
 #![tactic(auto)]
 
+mod check_line;
 mod exit;
 mod mem_files;
 mod mem_sink;
@@ -47,7 +48,7 @@ fn run<R: Runtime + AllocGlobal>(rt: &R) -> Exit {
 
 /// Says on standard error why the program didn't do what it was asked for.
 fn tell<R: Eprint + AllocGlobal>(rt: &R, exit: &Exit) {
-    if *exit == Exit::Done {
+    if let Exit::Done = exit {
         return;
     }
     if let Ok(line) = fault_line(rt.alloc(), exit) {

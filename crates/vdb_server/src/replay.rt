@@ -75,7 +75,7 @@ fn put_waiting<O: Sink>(session: &mut Session, out: &mut O) -> bool
 
 /// Puts out a whole piece. False: the sink failed.
 #[tactic(auto, using(crate::proofs::Pieces::pieces))]
-fn put_all<O: Sink>(piece: &[u8], out: &mut O) -> bool
+pub fn put_all<O: Sink>(piece: &[u8], out: &mut O) -> bool
     ensures { PutsAll piece.now result (O.held out.old) (O.held out.new) }
 {
     let mut rest = piece;

@@ -56,14 +56,15 @@ const REPLIES: [(&[u8], &[u8]); 9] = [
     (b"Q\x00\x10\x00\x04", b""),
 ];
 
-/// Runs `replay` over a catalogue and a stream in memory, where some calls of the files and of the sink fail.
+/// Runs `replay` over a catalogue and a stream in memory, where some calls of the files and of the sink fail, and answers
+/// the status and what was put.
 fn replayed(
     alloc: Global,
     catalogue: &[u8],
     stream: &[u8],
     failing_reads: &[u64],
     failing_puts: &[u64],
-) -> Result<(Exit, Vec<u8>), Fail> {
+) -> Result<(u8, Vec<u8>), Fail> {
     let mut files = Vec::new(alloc);
     files.push(file(alloc, b"c", catalogue)?)?;
     files.push(file(alloc, b"s", stream)?)?;
@@ -73,7 +74,7 @@ fn replayed(
     let words = words_of(alloc, &["replay", "c", "s"])?;
     let exit = run_tool(alloc, words.as_slice(), &mut files, &mut out);
     let bytes = Vec::from_slice(alloc, out.bytes().as_slice())?;
-    Ok((exit, bytes))
+    Ok((status(&exit), bytes))
 }
 
 fn file(alloc: Global, name: &[u8], bytes: &[u8]) -> Result<MemFile, Memory> {
@@ -102,7 +103,7 @@ fn each_message_has_its_reply(rt: HostRuntime) -> Result<(), Fail> {
         let stream = joined(rt.alloc(), START_UP, sent)?;
         let (exit, out) = replayed(rt.alloc(), CATALOGUE, stream.as_slice(), &[], &[])?;
         let tail = joined(rt.alloc(), READY, reply)?;
-        assert_eq!(rt; exit, Exit::Done);
+        assert_eq!(rt; exit, 0);
         assert!(rt;
             out.as_slice().ends_with(tail.as_slice()),
             "{sent:?} {out:?}"
@@ -126,7 +127,7 @@ fn another_start_up_is_not_built_yet(rt: HostRuntime) -> Result<(), Fail> {
     let refused: &[u8] = b"E\x00\x00\x00\x29SFATAL\x00VFATAL\x00C0A000\x00Mnot built yet\x00\x00";
     for packet in NO_START {
         let (exit, out) = replayed(rt.alloc(), CATALOGUE, packet, &[], &[])?;
-        assert_eq!(rt; exit, Exit::Done);
+        assert_eq!(rt; exit, 0);
         assert_eq!(rt; out.as_slice(), refused, "{packet:?}");
     }
     Ok(())
@@ -137,20 +138,24 @@ fn a_fault_ends_the_program_with_its_exit(rt: HostRuntime) -> Result<(), Fail> {
     let run = |catalogue: &[u8], reads: &[u64], puts: &[u64]| {
         replayed(rt.alloc(), catalogue, START_UP, reads, puts)
     };
-    let refused = Exit::Catalogue(CatalogueFault::Parse(CatalogRefused::Syntax(2)));
-    assert_eq!(rt; run(b"features\n", &[], &[])?.0, refused);
-    assert_eq!(rt; run(CATALOGUE, &[0], &[])?.0, Exit::ReadFault);
-    assert_eq!(rt; run(CATALOGUE, &[1], &[])?.0, Exit::ReadFault);
+    assert_eq!(rt; run(b"features\n", &[], &[])?.0, 2);
+    // The catalogue is checked before the stream is read.
+    assert_eq!(rt; run(b"features A; model A and not A;", &[1], &[])?.0, 2);
+    assert_eq!(rt; run(CATALOGUE, &[0], &[])?.0, 3);
+    assert_eq!(rt; run(CATALOGUE, &[1], &[])?.0, 3);
     let (exit, out) = run(CATALOGUE, &[], &[0])?;
-    assert_eq!(rt; exit, Exit::WriteFault);
+    assert_eq!(rt; exit, 4);
     assert_eq!(rt; out.as_slice(), b"".as_slice());
     Ok(())
 }
 
 #[test]
 fn other_words_are_refused(rt: HostRuntime) -> Result<(), Fail> {
-    let lists: [&[&str]; 5] = [
+    let lists: [&[&str]; 8] = [
         &[],
+        &["check"],
+        &["check", "c", "s"],
+        &["CHECK", "c"],
         &["replay"],
         &["replay", "c"],
         &["Replay", "c", "s"],
@@ -161,7 +166,7 @@ fn other_words_are_refused(rt: HostRuntime) -> Result<(), Fail> {
         let mut files = MemFiles::new(List::new(rt.alloc()), List::new(rt.alloc()));
         let mut out = MemSink::new(rt.alloc(), List::new(rt.alloc()));
         let exit = run_tool(rt.alloc(), words.as_slice(), &mut files, &mut out);
-        assert_eq!(rt; exit, Exit::Usage, "{list:?}");
+        assert_eq!(rt; status(&exit), 1, "{list:?}");
     }
     Ok(())
 }
@@ -170,9 +175,75 @@ fn other_words_are_refused(rt: HostRuntime) -> Result<(), Fail> {
 fn a_file_above_the_limit_is_too_long(rt: HostRuntime) -> Result<(), Fail> {
     let long = vec![in rt.alloc(); b' '; FILE_LIMIT as usize + 1]?;
     let (exit, out) = replayed(rt.alloc(), CATALOGUE, long.as_slice(), &[], &[])?;
-    assert_eq!(rt; exit, Exit::TooLong);
+    assert_eq!(rt; exit, 8);
     assert_eq!(rt; out.as_slice(), b"".as_slice());
     Ok(())
+}
+
+/// A catalogue with a model, with a table and with a row, and what `check` says of it.
+const CHECKS: [[&str; 4]; 6] = [
+    [
+        "A or B",
+        "dept (id int8, title text) when B",
+        "emp (id 3, name 'cy') when not A",
+        "ok: 2 features, 2 tables, 4 rows\n",
+    ],
+    [
+        "A and not A",
+        "dept (id int8, title text) when B",
+        "emp (id 3, name 'cy') when not A",
+        "catalogue: no variant",
+    ],
+    [
+        "A or B",
+        "dept (id int8, title tex) when B",
+        "emp (id 3, name 'cy') when not A",
+        "catalogue: line 4: syntax",
+    ],
+    [
+        "A or B",
+        "dept (id int8 when A, title text when A)",
+        "emp (id 3, name 'cy')",
+        "catalogue: table dept has no column in variant {B}",
+    ],
+    [
+        "A and B",
+        "dept (id int8, title text) when B",
+        "emp (id 3, name 'cy')",
+        "catalogue: line 7: column pay has no value in variant {A,B}",
+    ],
+    [
+        "not B",
+        "dept (id int8 when A, title text)",
+        "dept (title 'x') when A and not B",
+        "catalogue: line 7: column id has no value in variant {A}",
+    ],
+];
+
+#[test]
+fn a_catalogue_is_checked(rt: HostRuntime) -> Result<(), Fail> {
+    for [model, table, row, wanted] in &CHECKS {
+        let text = format!(in rt.alloc();
+            "features A, B;\nmodel {model};\ntable emp (id int8, name text, pay int8 when A);\ntable {table};\nrow emp (id 1, name 'ann', pay 10);\nrow emp (id 2, name 'bob', pay 20) when A;\nrow {row};\nrow dept (id 7, title 'ops');"
+        )?;
+        let said = said_of(rt.alloc(), text.as_bytes(), &[])?;
+        assert_eq!(rt; said.as_slice(), wanted.as_bytes());
+    }
+    let said = said_of(rt.alloc(), CATALOGUE, &[0])?;
+    assert_eq!(rt; said.as_slice(), b"write fault".as_slice());
+    Ok(())
+}
+
+/// What `check` of a catalogue puts, and behind it its fault line.
+fn said_of(alloc: Global, catalogue: &[u8], failing_puts: &[u64]) -> Result<Vec<u8>, Fail> {
+    let mut files = Vec::new(alloc);
+    files.push(file(alloc, b"c", catalogue)?)?;
+    let mut files = MemFiles::new(List::from_vec(files), List::new(alloc));
+    let mut out = MemSink::new(alloc, List::from_slice(alloc, failing_puts)?);
+    let words = words_of(alloc, &["check", "c"])?;
+    let exit = run_tool(alloc, words.as_slice(), &mut files, &mut out);
+    let told = fault_line(alloc, &exit).map_err(|_| "memory")?;
+    Ok(joined(alloc, out.bytes().as_slice(), told.as_slice())?)
 }
 
 #[test]

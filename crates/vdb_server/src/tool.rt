@@ -1,33 +1,40 @@
-ghost use Rattle.std.specs.Prelude.{◌≡◌, ◌≤◌, ◌↔◌, ◌⊎◌, false, map, length, string_bytes, is_some, OnOk, IfSome, IfOk, IfErr};
+ghost use Rattle.std.specs.Prelude.{◌≡◌, ◌≤◌, ◌↔◌, ◌⊎◌, ◌||◌, true, false, map, length, string_bytes, is_some, OnOk, IfSome, IfOk, IfErr};
 ghost use Rattle.causes.specs.Faults.{Rose};
 ghost use Rattle.causes.specs.Told.{IsContent};
 ghost use Rattle.vdb_server.specs.Sources.{IsLong, Lasts};
-ghost use Rattle.vdb_server.specs.Exits.{is_replay, catalogue_name, stream_name, IsReadable, IsRefusedFile, IfCatalogue, IfUnopened, IsReadExit, IsOpeningExit, IsRunExit, IsToolExit};
+ghost use Rattle.vdb_server.specs.Exits.{is_replay, is_check, catalogue_name, stream_name, IsReadable, IsRefusedFile, IfCatalogue, IfUnopened, IsReadExit, IsOpeningExit, IsRunExit, IsToolExit};
+ghost use Rattle.vra_types.specs.Check.{Passes};
+ghost use Rattle.vdb_server.specs.Checks.{IsCheckedFile, IsTold, IsCheckExit, IsUnpassedExit};
 ghost use Rattle.vdb_server.specs.declared.exit.Exit.TheVariants as exit;
 
+use crate::check_line::line_of_passed;
 use crate::exit::{CatalogueFault, Exit};
-use crate::replay::replay;
+use crate::replay::{put_all, replay};
 use crate::sink::Sink;
 use crate::source::{FileGot, Source};
+use feature_expr::List;
 use session_poll::Opening;
 use std::alloc::Global;
-use vschema::{CatalogRefused, parse_catalog};
+use vra_types::{CheckRefused, check_catalog};
+use vschema::{Catalog, CatalogRefused, OpeningRow, parse_catalog};
 
 /// The greatest length of a file that is read, in bytes.
 pub const FILE_LIMIT: u64 = 268_435_456;
 
 /// Runs the command that the words name: `replay CATALOGUE STREAM` runs one session over the bytes of the second file
-/// and puts out what it answers.
+/// and puts out what it answers. `check CATALOGUE` says whether the catalogue can be used.
 pub fn run_tool<F: Source, O: Sink>(
     alloc: Global,
     words: &[String],
     files: &mut F,
     out: &mut O,
 ) -> Exit
-    ensures done { result ≡ exit.Done
+    ensures done { is_replay (map string_bytes words.now) ≡ true → result ≡ exit.Done
         → IsReadable (F.files files.old) (catalogue_name (map string_bytes words.now))
         × IsReadable (F.files files.old) (stream_name (map string_bytes words.now)) }
-    ensures usage { (result ≡ exit.Usage) ↔ (is_replay (map string_bytes words.now) ≡ false) }
+    ensures told { is_check (map string_bytes words.now) ≡ true → result ≡ exit.Done
+        → IsTold (F.files files.old) (catalogue_name (map string_bytes words.now)) (O.held out.old) (O.held out.new) }
+    ensures usage { (result ≡ exit.Usage) ↔ ((is_replay (map string_bytes words.now) || is_check (map string_bytes words.now)) ≡ false) }
     ensures read { result ≡ exit.ReadFault → Rose (F.files files.old).faults (F.files files.new).faults }
     ensures write { result ≡ exit.WriteFault → Rose (O.held out.old).faults (O.held out.new).faults }
     ensures long { result ≡ exit.TooLong
@@ -40,7 +47,10 @@ pub fn run_tool<F: Source, O: Sink>(
 {
     match replay_names(words) {
         Some((catalogue, stream)) => run_replay(alloc, catalogue, stream, files, out),
-        None => Exit::Usage,
+        None => match check_name(words) {
+            Some(catalogue) => run_check(alloc, catalogue, files, out),
+            None => Exit::Usage,
+        },
     }
 }
 
@@ -55,6 +65,36 @@ fn replay_names(words: &[String]) -> Option<(&str, &str)>
             Some((catalogue.as_str(), stream.as_str()))
         }
         _ => None,
+    }
+}
+
+/// The name of the catalogue, where the words are those of a check.
+fn check_name(words: &[String]) -> Option<&str>
+    ensures is { is_some result ≡ is_check (map string_bytes words.now) }
+    ensures catalogue { IfSome result (λ name. name.now ≡ catalogue_name (map string_bytes words.now)) }
+{
+    match words {
+        [command, catalogue] if command.as_str() == "check" => Some(catalogue.as_str()),
+        _ => None,
+    }
+}
+
+/// Says on the sink what a catalogue has that passes its check.
+fn run_check<F: Source, O: Sink>(alloc: Global, catalogue: &str, files: &mut F, out: &mut O) -> Exit
+    ensures ends { IsCheckExit (F.files files.old) catalogue.now result (F.files files.new) (O.held out.old) (O.held out.new) }
+    ensures lasts { Lasts (F.files files.old) (F.files files.new) }
+{
+    let opening = match read_opening(alloc, catalogue, files) {
+        Ok(opening) => opening,
+        Err(exit) => return exit,
+    };
+    let Ok(line) = line_of_passed(alloc, &opening.catalog, &opening.rows) else {
+        return Exit::Memory;
+    };
+    if put_all(line.as_slice(), out) {
+        Exit::Done
+    } else {
+        Exit::WriteFault
     }
 }
 
@@ -79,17 +119,30 @@ fn run_replay<F: Source, O: Sink>(
     replay(alloc, &opening, bytes.as_slice(), out)
 }
 
-/// Reads a catalogue, and lets go of its bytes.
+/// Reads a catalogue and checks it, and lets go of its bytes.
 fn read_opening<F: Source>(alloc: Global, name: &str, files: &mut F) -> Result<Opening, Exit>
     ensures readable { OnOk result (IsReadable (F.files files.old) name.now) }
+    ensures checked { IfOk result (λ opening. IsCheckedFile (F.files files.old) name.now opening.catalog opening.rows) }
     ensures err { IfErr result (λ exit. IsOpeningExit (F.files files.old) name.now exit (F.files files.new)) }
     ensures lasts { Lasts (F.files files.old) (F.files files.new) }
 {
     let bytes = read_whole(alloc, name, files)?;
     match parse_catalog(alloc, bytes.as_slice()) {
-        Ok((catalog, rows)) => Ok(Opening { catalog, rows }),
+        Ok((catalog, rows)) => checked_opening(alloc, catalog, rows),
         Err(CatalogRefused::Memory) => Err(Exit::Memory),
         Err(why) => Err(Exit::Catalogue(CatalogueFault::Parse(why))),
+    }
+}
+
+/// The catalogue and its rows, where they pass their check.
+fn checked_opening(alloc: Global, catalog: Catalog, rows: List<OpeningRow>) -> Result<Opening, Exit>
+    ensures passes { IfOk result (λ opening. (opening.catalog ≡ catalog) × (opening.rows ≡ rows) × Passes catalog rows) }
+    ensures refused { IfErr result (λ exit. IsUnpassedExit exit catalog rows) }
+{
+    match check_catalog(alloc, &catalog, &rows) {
+        Ok(_model) => Ok(Opening { catalog, rows }),
+        Err(CheckRefused::Memory) => Err(Exit::Memory),
+        Err(why) => Err(Exit::Catalogue(CatalogueFault::Check(why, catalog))),
     }
 }
 

@@ -1,0 +1,51 @@
+-- How a check of a catalogue ends, and what a catalogue is that passed it.
+use Rattle.std.specs.Prelude.{◌≡◌, ℕ, ◌≤◌, List, length}
+use Rattle.std.specs.Io.KnownBytes.{Appends}
+use Rattle.causes.specs.Faults.{Rose}
+use Rattle.causes.specs.Told.{IsContent}
+use Rattle.vschema.specs.Spelling.{IsCatalogue}
+use Rattle.vschema.specs.declared.catalog.Catalog.{Catalog}
+use Rattle.vschema.specs.declared.catalog.OpeningRow.{OpeningRow}
+use Rattle.vra_types.specs.Check as check
+use Rattle.vra_types.specs.Check.{Passes}
+use Rattle.vra_types.specs.declared.refused.CheckRefused.TheVariants as unpassed
+use Rattle.vdb_server.specs.CheckLines.{passed_line}
+use Rattle.vdb_server.specs.Exits.{IsRefusedFile}
+use Rattle.vdb_server.specs.Sinks.{Held}
+use Rattle.vdb_server.specs.Sources.{Files, IsLong}
+use Rattle.vdb_server.specs.declared.exit.CatalogueFault.TheVariants as fault
+use Rattle.vdb_server.specs.declared.exit.Exit.{Exit}
+use Rattle.vdb_server.specs.declared.exit.Exit.TheVariants as exit
+use Rattle.vdb_server.specs.declared.tool.TheConstants.{FILE_LIMIT}
+
+-- the file was read whole, and its content is this catalogue with these opening rows, which pass their check
+pub record IsCheckedFile (files : Files) (name : List ℕ) (catalog : Catalog) (rows : List OpeningRow) : Type 0 where
+  pub bytes : List ℕ
+  pub content : IsContent files.contents name bytes
+  pub within : length bytes ≤ FILE_LIMIT
+  pub spelled : IsCatalogue bytes catalog rows
+  pub passes : Passes catalog rows
+
+-- the exits of a catalogue that was read and doesn't pass its check
+abbrev pub IsUnpassedExit : Exit → Catalog → List OpeningRow → Type 0
+IsUnpassedExit (exit.Catalogue (fault.Check unpassed.Memory catalog)) read rows = ⊥
+IsUnpassedExit (exit.Catalogue (fault.Check why catalog)) read rows = (catalog ≡ read) × check.Refuses catalog rows why
+IsUnpassedExit exit.Memory read rows = Unit {0}
+IsUnpassedExit _ read rows = ⊥
+
+-- such a file, and its line was put
+pub record IsTold (files : Files) (name : List ℕ) (before after : Held) : Type 0 where
+  pub catalog : Catalog
+  pub rows : List OpeningRow
+  pub checked : IsCheckedFile files name catalog rows
+  pub put : Appends before.bytes after.bytes (passed_line catalog rows)
+
+-- the exits of a check, with their causes
+abbrev pub IsCheckExit : Files → List ℕ → Exit → Files → Held → Held → Type 0
+IsCheckExit before name exit.Done after out out' = IsTold before name out out'
+IsCheckExit before name (exit.Catalogue why) after out out' = IsRefusedFile before name why × (out' ≡ out)
+IsCheckExit before name exit.ReadFault after out out' = Rose before.faults after.faults × (out' ≡ out)
+IsCheckExit before name exit.WriteFault after out out' = Rose out.faults out'.faults
+IsCheckExit before name exit.TooLong after out out' = IsLong before.contents name FILE_LIMIT × (out' ≡ out)
+IsCheckExit before name exit.Memory after out out' = Unit {0}
+IsCheckExit before name _ after out out' = ⊥
