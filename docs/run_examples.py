@@ -61,7 +61,7 @@ def main():
     blocks = page.count(b"\n```catalogue")
     if passed + failed != blocks + len(FILE.findall(page)):
         failed += 1
-        print(f"CATALOGUE.md: a block `catalogue` has no output behind it", file=sys.stderr)
+        print("CATALOGUE.md: a block `catalogue` has no output behind it", file=sys.stderr)
     print(f"examples: {passed} passed, {failed} failed", file=sys.stderr)
     sys.exit(1 if failed else 0)
 

@@ -1,3 +1,4 @@
 mod Pieces
-mod VariantText
 mod ReplayLaws
+mod ReplayedLaws
+mod VariantText

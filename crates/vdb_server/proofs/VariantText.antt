@@ -11,5 +11,5 @@ name_next names feature name some = rw (drop_more names feature name (slice_get_
 pub name_put : (line : List ℕ) (is_first : Bool) (c : List ℕ) (names : List (List ℕ)) (feature : ℕ) (name : List ℕ) → slice_get names feature ≡ Some name → has_feature c feature ≡ true → (line ++ (separator is_first ++ name)) ++ separated false (held_names c (feature + 1) (drop (feature + 1) names)) ≡ line ++ separated is_first (held_names c feature (drop feature names))
 name_put line is_first c names feature name some held = rw (name_next names feature name some) (rw held (append_assoc line (separator is_first ++ name) (separated false (held_names c (feature + 1) (drop (feature + 1) names)))))
 
-pub name_skipped : (line : List ℕ) (is_first : Bool) (c : List ℕ) (names : List (List ℕ)) (feature : ℕ) (name : List ℕ) → slice_get names feature ≡ Some name → has_feature c feature ≡ false → line ++ separated is_first (held_names c (feature + 1) (drop (feature + 1) names)) ≡ line ++ separated is_first (held_names c feature (drop feature names))
-name_skipped line is_first c names feature name some lacking = rw (name_next names feature name some) (rw lacking refl)
+pub name_skipped : (line : List ℕ) (is_first : Bool) (c : List ℕ) (names : List (List ℕ)) (feature : ℕ) → feature < length names → has_feature c feature ≡ false → line ++ separated is_first (held_names c (feature + 1) (drop (feature + 1) names)) ≡ line ++ separated is_first (held_names c feature (drop feature names))
+name_skipped line is_first c names feature low lacking = rw (drop_more names feature [] low) (rw lacking refl)

@@ -1,0 +1,11 @@
+use Rattle.std.proofs.Common.{◌≡◌}
+use Rattle.vdb_server.specs.Checks.{IsTold}
+use Rattle.vdb_server.proofs.tool.run_check.Goals as goal
+
+pub returns-then-put_all-clause-ends : goal.returns-then-put_all-clause-ends
+returns-then-put_all-clause-ends g c = record {
+  catalog = c.in-Ok.opening.catalog;
+  rows = c.in-Ok.opening.rows;
+  checked = c.in-Ok.ensures.checked;
+  put = rw (c.as_slice.ensures.value, c.in-Ok-line_of_passed.ensures) at c.if-put_all.ensures.0;
+}
