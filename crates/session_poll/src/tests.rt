@@ -1,6 +1,10 @@
+ghost use Rattle.std.specs.Prelude.{IfOk};
+ghost use Rattle.session_poll.specs.Servable.{IsServable};
+
 use super::*;
 use std::alloc::Global;
 use std::test::Fail;
+use vra_types::check_catalog;
 use vschema::parse_catalog;
 
 const CATALOGUE: &[u8] =
@@ -10,13 +14,18 @@ const CATALOGUE: &[u8] =
 const STREAM: &[u8] =
     b"\x00\x00\x00\x10\x00\x03\x00\x00user\x00u\x00\x00Q\x00\x00\x00\x07t;\x00Q\x00\x00\x00\x0e \t T -- x\x00Q\x00\x00\x00\x06u\x00X\x00\x00\x00\x04";
 
-fn opening(alloc: Global) -> Result<Opening, Fail> {
+fn opening(alloc: Global) -> Result<Opening, Fail>
+    ensures { IfOk result IsServable }
+{
     let (catalog, rows) = parse_catalog(alloc, CATALOGUE)?;
+    let _model = check_catalog(alloc, &catalog, &rows)?;
     Ok(Opening { catalog, rows })
 }
 
 /// What a session answers to a stream that it is fed in pieces of this size.
-fn reply(alloc: Global, opening: &Opening, stream: &[u8], cut: usize) -> Result<Vec<u8>, Fail> {
+fn reply(alloc: Global, opening: &Opening, stream: &[u8], cut: usize) -> Result<Vec<u8>, Fail>
+    requires { IsServable opening.now }
+{
     let mut session = Session::open(alloc).map_err(|_| "memory")?;
     let mut out = Vec::new(alloc);
     let mut fed = 0usize;

@@ -5,6 +5,7 @@ use Rattle.session_poll.specs.Servable.{IsServable}
 use Rattle.session_poll.specs.declared.opening.Opening.{Opening}
 use Rattle.vschema.specs.Formed.{IsFormed}
 use Rattle.vdb_server.specs.Checks.{IsCheckedFile}
+use Rattle.vdb_server.specs.Exits.{IsOpeningExit, IsReadExit}
 use Rattle.vdb_server.specs.Replays.{IsReplayExit, Replays, ReplaysAll}
 use Rattle.vdb_server.specs.Replayed.{IsReplayed, IsReplayedWhole, IsReplayedExit}
 use Rattle.vdb_server.specs.Sinks.{Held}
@@ -30,3 +31,29 @@ replayed files catalogue stream opening bytes exit.LinksFault before after check
 replayed files catalogue stream opening bytes exit.TurnsOut before after checked content ends begun all = absurd ends
 replayed files catalogue stream opening bytes exit.TooLong before after checked content ends begun all = absurd ends
 replayed files catalogue stream opening bytes exit.KeeperFault before after checked content ends begun all = absurd ends
+
+-- an exit of the first read, before which nothing was put
+pub not_opened : (files files' before : Files) (name catalogue stream : List ℕ) (result : Exit) (out : Held) → IsOpeningExit before name result files' → IsReplayedExit files catalogue stream result out out
+not_opened files files' before name catalogue stream exit.Done out is = absurd is
+not_opened files files' before name catalogue stream exit.Usage out is = refl
+not_opened files files' before name catalogue stream (exit.Catalogue why) out is = refl
+not_opened files files' before name catalogue stream exit.ReadFault out is = refl
+not_opened files files' before name catalogue stream exit.WriteFault out is = absurd is
+not_opened files files' before name catalogue stream exit.LinksFault out is = refl
+not_opened files files' before name catalogue stream exit.TurnsOut out is = refl
+not_opened files files' before name catalogue stream exit.Memory out is = inl refl
+not_opened files files' before name catalogue stream exit.TooLong out is = refl
+not_opened files files' before name catalogue stream exit.KeeperFault out is = refl
+
+-- an exit of the second read
+pub not_read : (files files' before : Files) (name catalogue stream : List ℕ) (result : Exit) (out : Held) → IsReadExit before name result files' → IsReplayedExit files catalogue stream result out out
+not_read files files' before name catalogue stream exit.Done out is = absurd is
+not_read files files' before name catalogue stream exit.Usage out is = refl
+not_read files files' before name catalogue stream (exit.Catalogue why) out is = refl
+not_read files files' before name catalogue stream exit.ReadFault out is = refl
+not_read files files' before name catalogue stream exit.WriteFault out is = absurd is
+not_read files files' before name catalogue stream exit.LinksFault out is = refl
+not_read files files' before name catalogue stream exit.TurnsOut out is = refl
+not_read files files' before name catalogue stream exit.Memory out is = inl refl
+not_read files files' before name catalogue stream exit.TooLong out is = refl
+not_read files files' before name catalogue stream exit.KeeperFault out is = refl

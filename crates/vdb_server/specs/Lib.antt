@@ -4,6 +4,7 @@ pub mod Exits
 pub mod MemFiles
 pub mod MemSinks
 pub mod RealFiles
+pub mod Replayed
 pub mod Replays
 pub mod Sinks
 pub mod Sources

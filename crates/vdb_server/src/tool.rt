@@ -5,6 +5,9 @@ ghost use Rattle.vdb_server.specs.Sources.{IsLong, Lasts};
 ghost use Rattle.vdb_server.specs.Exits.{is_replay, is_check, catalogue_name, stream_name, IsReadable, IsRefusedFile, IfCatalogue, IfUnopened, IsReadExit, IsOpeningExit, IsRunExit, IsToolExit};
 ghost use Rattle.vra_types.specs.Check.{Passes};
 ghost use Rattle.vdb_server.specs.Checks.{IsCheckedFile, IsTold, IsCheckExit, IsUnpassedExit};
+ghost use Rattle.session_poll.specs.Servable.{IsServable};
+ghost use Rattle.vschema.specs.Formed.{IsFormed};
+ghost use Rattle.vdb_server.specs.Replayed.{IsReplayedExit};
 ghost use Rattle.vdb_server.specs.declared.exit.Exit.TheVariants as exit;
 
 use crate::check_line::line_of_passed;
@@ -32,6 +35,9 @@ pub fn run_tool<F: Source, O: Sink>(
     ensures done { is_replay (map string_bytes words.now) ≡ true → result ≡ exit.Done
         → IsReadable (F.files files.old) (catalogue_name (map string_bytes words.now))
         × IsReadable (F.files files.old) (stream_name (map string_bytes words.now)) }
+    // What a replay put out begins the reply of a session to the stream, and is the whole of it where it is done.
+    ensures replayed { is_replay (map string_bytes words.now) ≡ true
+        → IsReplayedExit (F.files files.old) (catalogue_name (map string_bytes words.now)) (stream_name (map string_bytes words.now)) result (O.held out.old) (O.held out.new) }
     ensures told { is_check (map string_bytes words.now) ≡ true → result ≡ exit.Done
         → IsTold (F.files files.old) (catalogue_name (map string_bytes words.now)) (O.held out.old) (O.held out.new) }
     ensures usage { (result ≡ exit.Usage) ↔ ((is_replay (map string_bytes words.now) || is_check (map string_bytes words.now)) ≡ false) }
@@ -98,6 +104,7 @@ fn run_check<F: Source, O: Sink>(alloc: Global, catalogue: &str, files: &mut F, 
     }
 }
 
+#[tactic(auto, using(crate::proofs::ReplayedLaws::replayed, crate::proofs::ReplayedLaws::not_opened, crate::proofs::ReplayedLaws::not_read))]
 fn run_replay<F: Source, O: Sink>(
     alloc: Global,
     catalogue: &str,
@@ -106,6 +113,7 @@ fn run_replay<F: Source, O: Sink>(
     out: &mut O,
 ) -> Exit
     ensures ends { IsRunExit (F.files files.old) catalogue.now stream.now result (F.files files.new) (O.held out.old) (O.held out.new) }
+    ensures replayed { IsReplayedExit (F.files files.old) catalogue.now stream.now result (O.held out.old) (O.held out.new) }
     ensures lasts { Lasts (F.files files.old) (F.files files.new) }
 {
     let opening = match read_opening(alloc, catalogue, files) {
@@ -123,6 +131,7 @@ fn run_replay<F: Source, O: Sink>(
 fn read_opening<F: Source>(alloc: Global, name: &str, files: &mut F) -> Result<Opening, Exit>
     ensures readable { OnOk result (IsReadable (F.files files.old) name.now) }
     ensures checked { IfOk result (λ opening. IsCheckedFile (F.files files.old) name.now opening.catalog opening.rows) }
+    ensures servable { IfOk result IsServable }
     ensures err { IfErr result (λ exit. IsOpeningExit (F.files files.old) name.now exit (F.files files.new)) }
     ensures lasts { Lasts (F.files files.old) (F.files files.new) }
 {
@@ -136,7 +145,9 @@ fn read_opening<F: Source>(alloc: Global, name: &str, files: &mut F) -> Result<O
 
 /// The catalogue and its rows, where they pass their check.
 fn checked_opening(alloc: Global, catalog: Catalog, rows: List<OpeningRow>) -> Result<Opening, Exit>
+    requires { IsFormed catalog rows }
     ensures passes { IfOk result (λ opening. (opening.catalog ≡ catalog) × (opening.rows ≡ rows) × Passes catalog rows) }
+    ensures servable { IfOk result IsServable }
     ensures refused { IfErr result (λ exit. IsUnpassedExit exit catalog rows) }
 {
     match check_catalog(alloc, &catalog, &rows) {
