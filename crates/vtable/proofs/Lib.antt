@@ -1,0 +1,2 @@
+pub mod DisjunctionLaws
+pub mod PossibleLaws

@@ -1,1 +1,4 @@
 pub mod Answers
+pub mod Disjunction
+pub mod Possible
+pub mod TableForm

@@ -2,8 +2,12 @@
 //! that say in which variants they are there.
 #![tactic(auto)]
 
+mod disjunction;
 mod plain;
+mod possible;
+mod same;
 mod table;
 
 pub use plain::{Plain, PlainColumn};
+pub use possible::can_hold_means;
 pub use table::{VColumn, VRow, VTable};
