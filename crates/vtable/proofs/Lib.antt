@@ -1,2 +1,3 @@
 pub mod DisjunctionLaws
+pub mod PassLaws
 pub mod PossibleLaws

@@ -2,7 +2,10 @@
 //! that say in which variants they are there.
 #![tactic(auto)]
 
+mod columns;
+mod decision;
 mod disjunction;
+mod group;
 mod plain;
 mod possible;
 mod same;
