@@ -1,3 +1,4 @@
 pub mod DisjunctionLaws
+pub mod GroupLaws
 pub mod PassLaws
 pub mod PossibleLaws

@@ -1,11 +1,12 @@
 -- What the passes make of columns and rows, one after another.
-use Rattle.std.specs.Prelude.{Bool, true, false, ◌≡◌, ◌&&◌, ◌++◌, ℕ, List, [], ◌∷◌, map, length, Option, Some, None, if◌then◌else◌}
-use Rattle.std.specs.List.{filter_map, list_all, list_any, sum_by}
+use Rattle.std.specs.Prelude.{Bool, true, false, not, ◌≡◌, ◌&&◌, ◌++◌, ℕ, List, [], ◌∷◌, map, length, Option, Some, None, if◌then◌else◌}
+use Rattle.std.specs.List.{filter_map}
+use Rattle.std.specs.Ordering.{is_lt, is_eq}
 use Rattle.feature_expr.specs.declared.expr.Expr.{Expr}
 use Rattle.feature_expr.specs.declared.expr.Expr as e
 use Rattle.feature_expr.specs.declared.value.Value.{Value}
 use Rattle.vtable.specs.Possible.{can_hold, can_meet}
-use Rattle.vtable.specs.TableForm.{settled, column_staying, cut_cells, has_cell}
+use Rattle.vtable.specs.TableForm.{settled, has_cell, cells_cmp}
 use Rattle.vtable.specs.declared.decision.Decision.{Decision}
 use Rattle.vtable.specs.declared.decision.Fate.{Fate}
 use Rattle.vtable.specs.declared.decision.Fate.TheVariants as fate
@@ -52,6 +53,28 @@ row_staying model columns row =
 abbrev pub table_row : CutRow → VRow
 table_row row = record { cells = row.cells.items; cond = row.cond }
 
+-- whether no row is before the one in front of it, by their cells
+abbrev pub is_in_order : List VRow → Bool
+is_in_order [] = true
+is_in_order (row ∷ []) = true
+is_in_order (row ∷ next ∷ rows) = not (is_lt (cells_cmp next.cells row.cells)) && is_in_order (next ∷ rows)
+
+abbrev pub same_cells : List (Option Value) → List (Option Value) → Bool
+same_cells one other = is_eq (cells_cmp one other)
+
+abbrev pub group_of : VRow → Group
+group_of row = record { cells = row.cells; first = row.cond; more = [] }
+
+abbrev pub with_cond : Group → Expr → Group
+with_cond group cond = record { cells = group.cells; first = group.first; more = group.more ++ cond ∷ [] }
+
+-- the groups of the rows that follow, where the current group may go on
+abbrev pub groups_after : Option Group → List VRow → List Group
+groups_after None [] = []
+groups_after None (row ∷ rows) = groups_after (Some (group_of row)) rows
+groups_after (Some group) [] = group ∷ []
+groups_after (Some group) (row ∷ rows) = if same_cells group.cells row.cells then groups_after (Some (with_cond group row.cond)) rows else group ∷ groups_after (Some (group_of row)) rows
+
 -- the rows of a group
 abbrev pub group_rows : Group → List VRow
-group_rows group = record { cells = group.cells.items; cond = group.first } ∷ map (λ (cond : Expr). record { cells = group.cells.items; cond = cond }) group.more.items
+group_rows group = map (λ (cond : Expr). record { cells = group.cells; cond = cond }) (group.first ∷ group.more)
