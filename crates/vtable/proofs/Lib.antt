@@ -1,4 +1,5 @@
 pub mod DisjunctionLaws
 pub mod GroupLaws
+pub mod JoinLaws
 pub mod PassLaws
 pub mod PossibleLaws

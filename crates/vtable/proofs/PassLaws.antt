@@ -32,3 +32,10 @@ one_put cut cut_new fates fate cell old new is put =
     ap (λ xs. xs ++ cells_by fates (reverse new)) put
     ∙ append_assoc cut (cell_by fate cell) (cells_by fates (reverse new))
     ∙ ap (λ xs. cut ++ cells_by (fate ∷ fates) xs) (sym (ap reverse is ∙ reverse-append new (cell ∷ [])))
+
+list_of : {Y : Type 0} (kept : Option Y) → filter_map (λ (x : Option Y). x) (kept ∷ []) ≡ option_to_list kept
+list_of None = refl
+list_of (Some y) = refl
+
+pub kept_push : {X Y : Type 0} (keep : X → Option Y) (xs : List X) (x : X) → filter_map keep (xs ++ x ∷ []) ≡ filter_map keep xs ++ option_to_list (keep x)
+kept_push keep xs x = filter_map-append keep xs (x ∷ []) ∙ ap (λ ys. filter_map keep xs ++ ys) (list_of (keep x))

@@ -89,7 +89,7 @@ admitted_of model passes h =
       has = and_second _ _ found.passing;
     }
 
-true_or_false : (b : Bool) → (b ≡ true) ⊎ (b ≡ false)
+pub true_or_false : (b : Bool) → (b ≡ true) ⊎ (b ≡ false)
 true_or_false true = inl refl
 true_or_false false = inr refl
 

@@ -1,4 +1,4 @@
-ghost use Rattle.std.specs.Prelude.{◌≡◌, ◌++◌, ◌∷◌, true, map, reverse, List as Items, Option, IfOk, OnOk};
+ghost use Rattle.std.specs.Prelude.{◌≡◌, ◌++◌, ◌∷◌, true, map, reverse, List as Items, Option, IfOk, IfSome, OnOk};
 ghost use Rattle.feature_expr.specs.declared.expr.Expr.{Expr};
 ghost use Rattle.vtable.specs.declared.decision.Fate.{Fate};
 ghost use Rattle.vtable.specs.declared.table.VColumn.{VColumn};
@@ -89,23 +89,28 @@ fn fate_in(model: &Model, cond: &Expr, column: &Option<VColumn>) -> Result<Fate,
     }
 }
 
-/// The decision of a row's condition: this one where it is of the same condition, else a new one.
+/// The decision of a row's condition: the last one where it is of the same condition, else a new one.
 pub fn decision_for(
     alloc: Global,
     model: &Model,
     columns: &[Option<VColumn>],
-    decision: Decision,
+    last: Option<Decision>,
     cond: &Expr,
 ) -> Result<Decision, Memory>
-    requires { IsDecision model.now columns.now decision }
+    requires { IfSome last (λ decision. IsDecision model.now columns.now decision) }
     ensures is { IfOk result (λ it. IsDecision model.now columns.now it) }
     ensures cond { IfOk result (λ it. it.cond ≡ cond.now) }
 {
-    if is_same_expr(&decision.cond, cond) {
-        return Ok(decision);
+    match last {
+        Some(decision) => {
+            if is_same_expr(&decision.cond, cond) {
+                Ok(decision)
+            } else {
+                decide(alloc, model, columns, cond)
+            }
+        }
+        None => decide(alloc, model, columns, cond),
     }
-    let decision = decide(alloc, model, columns, cond)?;
-    Ok(decision)
 }
 
 /// A row cut to the columns that stay, or none where it doesn't stay.

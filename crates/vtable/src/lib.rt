@@ -6,11 +6,14 @@ mod columns;
 mod decision;
 mod disjunction;
 mod group;
+mod join;
+mod normal;
 mod plain;
 mod possible;
 mod same;
 mod table;
 
+pub use normal::make_normal;
 pub use plain::{Plain, PlainColumn};
 pub use possible::can_hold_means;
 pub use table::{VColumn, VRow, VTable};

@@ -1,0 +1,87 @@
+ghost use Rattle.std.specs.Prelude.{◌≡◌, ◌++◌, map, IsPermutation, IfOk, IfSome, OnOk};
+ghost use Rattle.std.specs.List.{filter_map};
+ghost use Rattle.std.specs.Option.{option_to_list};
+ghost use Rattle.vtable.specs.Passes.{IsDecision, row_staying, table_row};
+
+use crate::columns::{decided_columns, staying_columns};
+use crate::decision::{Decision, cut_row, decision_for};
+use crate::group::{CutRow, grouped, in_order};
+use crate::join::joined_rows;
+use crate::same::fingerprint;
+use crate::table::{VColumn, VRow, VTable};
+use condition_sat::Model;
+use feature_expr::{List, Memory};
+use std::alloc::Global;
+
+/// The rows, those with one condition together but for chance. Each condition is decided once then.
+fn by_condition(rows: List<VRow>) -> Result<Vec<VRow>, Memory>
+    ensures { IfOk result (λ sorted. IsPermutation rows sorted.items) }
+{
+    let mut rows = rows.into_vec();
+    rows.sort_by_cached_key(|row| fingerprint(&row.cond))?;
+    Ok(rows)
+}
+
+#[tactic(auto, using(crate::proofs::PassLaws::kept_push))]
+/// The rows that stay, each cut to the columns that stay.
+fn cut_rows(
+    alloc: Global,
+    model: &Model,
+    columns: &[Option<VColumn>],
+    rows: Vec<VRow>,
+) -> Result<Vec<CutRow>, Memory>
+    ensures { IfOk result (λ cut. map table_row cut.items ≡ filter_map (row_staying model.now columns.now) rows.items) }
+{
+    let mut cut = Vec::new(alloc);
+    let mut decision = None;
+    for row in rows {
+        let decided = put_row(alloc, model, columns, decision, row, &mut cut)?;
+        decision = Some(decided);
+    }
+    Ok(cut)
+}
+
+/// Puts what is left of a row behind the others, and answers what was decided of its condition.
+fn put_row(
+    alloc: Global,
+    model: &Model,
+    columns: &[Option<VColumn>],
+    last: Option<Decision>,
+    row: VRow,
+    cut: &mut Vec<CutRow>,
+) -> Result<Decision, Memory>
+    requires { IfSome last (λ decision. IsDecision model.now columns.now decision) }
+    ensures is { IfOk result (λ decision. IsDecision model.now columns.now decision) }
+    ensures cut { OnOk result (map table_row cut.new.items ≡ map table_row cut.old.items ++ option_to_list (row_staying model.now columns.now row)) }
+{
+    let decision = decision_for(alloc, model, columns, last, &row.cond)?;
+    let staying = cut_row(alloc, &decision, row)?;
+    put_cut(cut, staying)?;
+    Ok(decision)
+}
+
+fn put_cut(cut: &mut Vec<CutRow>, row: Option<VRow>) -> Result<(), Memory>
+    ensures { OnOk result (map table_row cut.new.items ≡ map table_row cut.old.items ++ option_to_list row) }
+{
+    match row {
+        Some(VRow { cells, cond }) => {
+            let cells = cells.into_vec();
+            cut.push(CutRow { cells, cond })?;
+            Ok(())
+        }
+        None => Ok(()),
+    }
+}
+
+/// The table in table form.
+pub fn make_normal(alloc: Global, model: &Model, table: VTable) -> Result<VTable, Memory> {
+    let VTable { columns, rows } = table;
+    let columns = decided_columns(alloc, model, columns)?;
+    let rows = by_condition(rows)?;
+    let rows = cut_rows(alloc, model, &columns, rows)?;
+    let rows = in_order(rows)?;
+    let groups = grouped(alloc, rows)?;
+    let rows = joined_rows(alloc, model, groups)?;
+    let columns = staying_columns(alloc, columns)?;
+    Ok(VTable { columns, rows })
+}
