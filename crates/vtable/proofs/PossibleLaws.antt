@@ -97,7 +97,7 @@ neither : (a b : Bool) → a ≡ false → b ≡ false → (a || b) ≡ false
 neither true b h k = search rules
 neither false b h k = k
 
-not_both : (b : Bool) → b ≡ true → b ≡ false → ⊥
+pub not_both : (b : Bool) → b ≡ true → b ≡ false → ⊥
 not_both true h k = search rules
 not_both false h k = search rules
 

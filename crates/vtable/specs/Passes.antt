@@ -1,7 +1,7 @@
 -- What the passes make of columns and rows, one after another.
 use Rattle.std.specs.Prelude.{Bool, true, false, not, ◌≡◌, ◌&&◌, ◌++◌, ◌+◌, ◌≤◌, ℕ, List, [], ◌∷◌, map, length, Option, Some, None, if◌then◌else◌}
 use Rattle.std.specs.List.{filter_map}
-use Rattle.std.specs.Ordering.{is_lt, is_eq}
+use Rattle.std.specs.Ordering.{is_lt}
 use Rattle.feature_expr.specs.declared.expr.Expr.{Expr}
 use Rattle.feature_expr.specs.declared.expr.Expr as e
 use Rattle.feature_expr.specs.declared.value.Value.{Value}
@@ -10,7 +10,7 @@ use Rattle.feature_expr.specs.Expressions.{weight_of}
 use Rattle.feature_expr.specs.Satisfaction.{satisfies}
 use Rattle.vtable.specs.Disjunction.{any_holds, conds_cost}
 use Rattle.vtable.specs.Possible.{can_hold, can_meet}
-use Rattle.vtable.specs.TableForm.{settled, is_settled, has_cell, cells_cmp}
+use Rattle.vtable.specs.TableForm.{settled, is_settled, has_cell, cells_cmp, same_cells}
 use Rattle.vtable.specs.declared.decision.Decision.{Decision}
 use Rattle.vtable.specs.declared.decision.Fate.{Fate}
 use Rattle.vtable.specs.declared.decision.Fate.TheVariants as fate
@@ -62,9 +62,6 @@ abbrev pub is_in_order : List VRow → Bool
 is_in_order [] = true
 is_in_order (row ∷ []) = true
 is_in_order (row ∷ next ∷ rows) = not (is_lt (cells_cmp next.cells row.cells)) && is_in_order (next ∷ rows)
-
-abbrev pub same_cells : List (Option Value) → List (Option Value) → Bool
-same_cells one other = is_eq (cells_cmp one other)
 
 abbrev pub group_of : VRow → Group
 group_of row = record { cells = row.cells; first = row.cond; more = [] }

@@ -1,8 +1,8 @@
 -- The one table in which an answer is given, and what becomes of a table that is brought into this form.
-use Rattle.std.specs.Prelude.{Bool, true, false, not, ◌≡◌, ◌≤◌, ◌+◌, ◌==◌, ◌&&◌, ◌||◌, ℕ, List, [], ◌∷◌, map, filter, length, Option, Some, None, is_some, if◌then◌else◌, ◌↔◌, ◌⊎◌}
+use Rattle.std.specs.Prelude.{Bool, true, false, not, ◌≡◌, ◌≤◌, ◌+◌, ◌==◌, ◌&&◌, ◌||◌, ℕ, List, [], ◌∷◌, map, filter, length, Option, Some, None, is_some, if◌then◌else◌}
 use Rattle.std.specs.List.{list_all, list_any, filter_map, sum_by}
 use Rattle.std.specs.Option.{option_cmp}
-use Rattle.std.specs.Ordering.{is_lt, nat_cmp, int_cmp}
+use Rattle.std.specs.Ordering.{is_lt, is_eq, nat_cmp, int_cmp}
 use Rattle.std.specs.declared.cmp.Ordering.{Ordering}
 use Rattle.std.specs.declared.cmp.Ordering.TheVariants.{Less, Greater}
 use Rattle.std.specs.Cmp.Lexicographic.{slice_cmp}
@@ -42,6 +42,9 @@ value_cmp (value.Bool one) _ = Greater
 -- cells are compared in the order of the columns, an absent one before every value
 abbrev pub cells_cmp : List (Option Value) → List (Option Value) → Ordering
 cells_cmp one other = slice_cmp (option_cmp value_cmp) one other
+
+abbrev pub same_cells : List (Option Value) → List (Option Value) → Bool
+same_cells one other = is_eq (cells_cmp one other)
 
 -- whether each row is before the next by its cells, so that no list of cells stands twice
 abbrev pub rows_ascend : List VRow → Bool
@@ -105,10 +108,9 @@ cut_row model columns row = record { cells = cut_cells model row.cond columns ro
 abbrev pub rows_weight : List VRow → ℕ
 rows_weight rows = sum_by (λ (row : VRow). weight_of row.cond) rows
 
--- among the rows stands one with these cells that is there in the variant
-abbrev pub HasCells : List ℕ → List (Option Value) → List VRow → Type 0
-HasCells c cells [] = ⊥
-HasCells c cells (row ∷ rows) = ((satisfies c row.cond ≡ true) × (row.cells ≡ cells)) ⊎ HasCells c cells rows
+-- whether, among the rows that are there in the variant, one has these cells
+abbrev pub stands : List ℕ → List (Option Value) → List VRow → Bool
+stands c cells rows = list_any (λ (row : VRow). satisfies c row.cond && same_cells row.cells cells) rows
 
 -- What a table is in table form. The columns that stay keep their order, and their condition or `true`. A list of cells
 -- is there, in an admitted configuration, exactly where it has a cell and a row that is there is cut to it: since
@@ -118,7 +120,7 @@ HasCells c cells (row ∷ rows) = ((satisfies c row.cond ≡ true) × (row.cells
 pub record IsNormalOf (model : Expr) (before after : VTable) : Type 0 where
   pub form : IsTableForm model after
   pub columns : after.columns ≡ columns_staying model before.columns
-  pub rows : (c : List ℕ) → IsAdmitted model c → (cells : List (Option Value)) → HasCells c cells after.rows ↔ ((has_cell cells ≡ true) × HasCells c cells (map (cut_row model before.columns) before.rows))
+  pub rows : (c : List ℕ) → IsAdmitted model c → (cells : List (Option Value)) → stands c cells after.rows ≡ (has_cell cells && stands c cells (map (cut_row model before.columns) before.rows))
   pub same : (c : List ℕ) → IsAdmitted model c → SameRelation (answer_at c after) (answer_at c before)
   pub fewer : length after.rows ≤ length before.rows
   pub lighter : rows_weight after.rows ≤ rows_weight before.rows + length before.rows

@@ -1,8 +1,8 @@
 ghost use Rattle.std.specs.Prelude.{◌≡◌, ◌++◌, ◌∷◌, [], true, map, None, Some, IsPermutation, List as Items, IfOk, OnOk};
 ghost use Rattle.std.specs.Ordering.{is_eq};
 ghost use Rattle.vtable.specs.declared.table.VRow.{VRow};
-ghost use Rattle.vtable.specs.TableForm.{cells_cmp};
-ghost use Rattle.vtable.specs.Passes.{table_row, is_in_order, same_cells, groups_after, group_of, with_cond};
+ghost use Rattle.vtable.specs.TableForm.{same_cells, cells_cmp};
+ghost use Rattle.vtable.specs.Passes.{table_row, is_in_order, groups_after, group_of, with_cond};
 
 use feature_expr::{Expr, List, Memory, Value};
 use std::alloc::Global;

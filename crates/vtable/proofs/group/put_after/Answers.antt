@@ -1,5 +1,6 @@
 use Rattle.std.proofs.Common.{◌≡◌, ◌++◌, false, rules, ◌∙◌, sym, ap, Some}
-use Rattle.vtable.specs.Passes.{groups_after, table_row, same_cells}
+use Rattle.vtable.specs.TableForm.{same_cells}
+use Rattle.vtable.specs.Passes.{groups_after, table_row}
 use Rattle.vtable.proofs.GroupLaws.{apart_put}
 use Rattle.vtable.proofs.group.put_after.Goals as goal
 
