@@ -159,7 +159,7 @@ beq_is true false h = search rules
 beq_is false true h = search rules
 beq_is false false h = refl
 
-beq_self : (a b : Bool) → a ≡ b → beq a b ≡ true
+pub beq_self : (a b : Bool) → a ≡ b → beq a b ≡ true
 beq_self true true h = refl
 beq_self true false h = search rules
 beq_self false true h = search rules

@@ -1,4 +1,5 @@
 pub mod CellLaws
+pub mod CutLaws
 pub mod DisjunctionLaws
 pub mod GroupLaws
 pub mod JoinLaws
@@ -6,3 +7,4 @@ pub mod JoinedLaws
 pub mod PassLaws
 pub mod PossibleLaws
 pub mod RowsLaws
+pub mod StayingLaws
