@@ -4,6 +4,7 @@ pub mod DisjunctionLaws
 pub mod GroupLaws
 pub mod JoinLaws
 pub mod JoinedLaws
+pub mod NormalLaws
 pub mod PassLaws
 pub mod PossibleLaws
 pub mod RowsLaws

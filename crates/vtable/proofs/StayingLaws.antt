@@ -126,21 +126,26 @@ is_filled c columns row = not (satisfies c row.cond) || fits (map (column_at c) 
 abbrev pub is_long : List VColumn → VRow → Bool
 is_long columns row = length row.cells == length columns
 
-filled_here : (a b : Bool) → (not a || b) ≡ true → a ≡ true → b ≡ true
+pub filled_here : (a b : Bool) → (not a || b) ≡ true → a ≡ true → b ≡ true
 filled_here true b h k = h
 filled_here false b h k = search rules
 
-pub kept_formed : (model : Expr) (columns : List VColumn) (rows : List VRow) → list_all (is_long columns) rows ≡ true → ((c : List ℕ) → IsAdmitted model c → list_all (is_filled c columns) rows ≡ true) → list_all (is_row_formed model (columns_staying model columns)) (filter_map (kept model columns) rows) ≡ true
+long_row : (model : Expr) (columns : List VColumn) (row : VRow) (rows : List VRow) → ((c : List ℕ) → IsAdmitted model c → list_all (is_long columns) (row ∷ rows) ≡ true) → can_hold model row.cond ≡ true → is_long columns row ≡ true
+long_row model columns row rows long holds =
+    let found = admitted_of model (λ c. satisfies c row.cond) holds in
+    and_first (is_long columns row) (list_all (is_long columns) rows) (long found.config found.admitted)
+
+pub kept_formed : (model : Expr) (columns : List VColumn) (rows : List VRow) → ((c : List ℕ) → IsAdmitted model c → list_all (is_long columns) rows ≡ true) → ((c : List ℕ) → IsAdmitted model c → list_all (is_filled c columns) rows ≡ true) → list_all (is_row_formed model (columns_staying model columns)) (filter_map (kept model columns) rows) ≡ true
 kept_formed model columns [] long filled = refl
 kept_formed model columns (row ∷ rows) long filled =
-    let rest = kept_formed model columns rows (and_second (is_long columns row) (list_all (is_long columns) rows) long) (λ c admitted. and_second (is_filled c columns row) (list_all (is_filled c columns) rows) (filled c admitted)) in
+    let rest = kept_formed model columns rows (λ c admitted. and_second (is_long columns row) (list_all (is_long columns) rows) (long c admitted)) (λ c admitted. and_second (is_filled c columns row) (list_all (is_filled c columns) rows) (filled c admitted)) in
     elim (true_or_false (can_hold model row.cond && has_cell (cut_cells model row.cond columns row.cells))) [
       | inl stays ↦
           ap (list_all (is_row_formed model (columns_staying model columns))) (row_kept model columns row rows stays)
           ∙ both _ _
           (both _ _
           (both _ _ (settled_is model row.cond (and_first (can_hold model row.cond) (has_cell (cut_cells model row.cond columns row.cells)) stays))
-          (cut_stand model row.cond columns row.cells (exact_unsigned_eq _ _ (and_first (is_long columns row) (list_all (is_long columns) rows) long))
+          (cut_stand model row.cond columns row.cells (exact_unsigned_eq _ _ (long_row model columns row rows long (and_first (can_hold model row.cond) (has_cell (cut_cells model row.cond columns row.cells)) stays)))
           (λ c admitted here. filled_here (satisfies c row.cond) (fits (map (column_at c) columns) row.cells) (and_first (is_filled c columns row) (list_all (is_filled c columns) rows) (filled c admitted)) here)))
           (and_second (can_hold model row.cond) (has_cell (cut_cells model row.cond columns row.cells)) stays))
           rest

@@ -78,6 +78,11 @@ pub record IsTableForm (model : Expr) (table : VTable) : Type 0 where
   pub formed : list_all (is_row_formed model table.columns) table.rows ≡ true
   pub ascending : rows_ascend table.rows ≡ true
 
+-- the table form under some model
+pub record IsFormed (table : VTable) : Type 0 where
+  pub model : Expr
+  pub form : IsTableForm model table
+
 -- the condition `true` in place of one that always holds
 abbrev pub settled : Expr → Expr → Expr
 settled model cond = if always_holds model cond then e.True else cond

@@ -7,13 +7,13 @@ mod decision;
 mod disjunction;
 mod group;
 mod join;
-mod normal;
+mod out_table;
 mod plain;
 mod possible;
 mod same;
 mod table;
 
-pub use normal::make_normal;
+pub use out_table::{OutTable, normal};
 pub use plain::{Plain, PlainColumn};
 pub use possible::can_hold_means;
 pub use table::{VColumn, VRow, VTable};

@@ -1,6 +1,9 @@
-ghost use Rattle.std.specs.Prelude.{◌≡◌, ◌++◌, map, IsPermutation, IfOk, IfSome, OnOk};
+ghost use Rattle.std.specs.Prelude.{◌≡◌, ◌++◌, map, true, ℕ, List as Items, IsPermutation, IfOk, IfSome, OnOk};
 ghost use Rattle.std.specs.List.{filter_map};
 ghost use Rattle.std.specs.Option.{option_to_list};
+ghost use Rattle.condition_sat.specs.Admitted.{IsAdmitted};
+ghost use Rattle.vtable.specs.Answers.{IsAnswerAt};
+ghost use Rattle.vtable.specs.TableForm.{IsFormed, IsNormalOf, columns_are_distinct};
 ghost use Rattle.vtable.specs.Passes.{IsDecision, row_staying, table_row};
 
 use crate::columns::{decided_columns, staying_columns};
@@ -12,6 +15,7 @@ use crate::table::{VColumn, VRow, VTable};
 use condition_sat::Model;
 use feature_expr::{List, Memory};
 use std::alloc::Global;
+use std::marker;
 
 /// The rows, those with one condition together but for chance. Each condition is decided once then.
 fn by_condition(rows: List<VRow>) -> Result<Vec<VRow>, Memory>
@@ -73,8 +77,53 @@ fn put_cut(cut: &mut Vec<CutRow>, row: Option<VRow>) -> Result<(), Memory>
     }
 }
 
-/// The table in table form.
-pub fn make_normal(alloc: Global, model: &Model, table: VTable) -> Result<VTable, Memory> {
+/// A table in table form.
+#[derive(Drop)]
+pub struct OutTable {
+    table: VTable,
+}
+
+impl marker::Model for OutTable {
+    ghost use Rattle.std.specs.Coded.{codes};
+    ghost use Rattle.vtable.specs.contracts.table.VTable as t;
+    ghost use Rattle.vtable.specs.declared.table.VTable.{VTable};
+    ghost use Rattle.vtable.specs.TableForm.{IsFormed};
+
+    ghost Value = { VTable };
+
+    ghost coded = { Prim.hlevel (codes, t.the_row.coded) };
+
+    ghost view = { λ out. out.table };
+
+    ghost invariant = { λ out. IsFormed out.table };
+}
+
+impl OutTable {
+    pub fn table(&self) -> &VTable
+        ensures table { result.now ≡ self.now }
+        ensures form { IsFormed self.now }
+    {
+        &self.table
+    }
+}
+
+/// The table in table form. Each distinct condition of a row is decided once, and once with each column, but for rows
+/// whose conditions agree in a fingerprint and differ.
+pub fn normal(alloc: Global, model: &Model, table: VTable) -> Result<OutTable, Memory>
+    requires distinct { columns_are_distinct table.columns ≡ true }
+    requires answers { (c : Items ℕ) → IsAdmitted model.now c → IsAnswerAt c table }
+    ensures { IfOk result (λ out. IsNormalOf model.now table out) }
+{
+    let table = made_normal(alloc, model, table)?;
+    Ok(OutTable { table })
+}
+
+/// The passes, one after another.
+fn made_normal(alloc: Global, model: &Model, table: VTable) -> Result<VTable, Memory>
+    requires distinct { columns_are_distinct table.columns ≡ true }
+    requires answers { (c : Items ℕ) → IsAdmitted model.now c → IsAnswerAt c table }
+    ensures { IfOk result (λ after. IsNormalOf model.now table after) }
+{
     let VTable { columns, rows } = table;
     let columns = decided_columns(alloc, model, columns)?;
     let rows = by_condition(rows)?;

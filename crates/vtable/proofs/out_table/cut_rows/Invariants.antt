@@ -2,7 +2,7 @@ use Rattle.std.proofs.Common.{◌≡◌, map}
 use Rattle.std.specs.Prelude.{IfSome}
 use Rattle.std.specs.List.{filter_map}
 use Rattle.vtable.specs.Passes.{IsDecision, row_staying, table_row}
-use Rattle.vtable.proofs.normal.cut_rows.Given as goal
+use Rattle.vtable.proofs.out_table.cut_rows.Given as goal
 
 abbrev pub invariant-loop-row : goal.invariant-loop-row
 invariant-loop-row l = record {

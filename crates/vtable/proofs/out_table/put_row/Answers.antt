@@ -1,7 +1,7 @@
 use Rattle.std.proofs.Common.{◌∙◌, ap, ◌++◌, map}
 use Rattle.std.specs.Option.{option_to_list}
 use Rattle.vtable.specs.Passes.{table_row}
-use Rattle.vtable.proofs.normal.put_row.Goals as goal
+use Rattle.vtable.proofs.out_table.put_row.Goals as goal
 
 pub returns-clause-cut : goal.returns-clause-cut
 returns-clause-cut c =
