@@ -34,11 +34,11 @@ order_from : (row : VRow) (rows : List VRow) → is_in_order (row ∷ rows) ≡ 
 order_from row [] = refl
 order_from row (next ∷ rows) = ap (λ b. not (is_lt (cells_cmp next.cells row.cells)) && b) (order_from next rows)
 
-abbrev groups_from : List (Option Value) → List Group → Bool
+abbrev pub groups_from : List (Option Value) → List Group → Bool
 groups_from cells [] = true
 groups_from cells (group ∷ groups) = is_lt (cells_cmp cells group.cells) && groups_from group.cells groups
 
-abbrev groups_ascend : List Group → Bool
+abbrev pub groups_ascend : List Group → Bool
 groups_ascend [] = true
 groups_ascend (group ∷ groups) = groups_from group.cells groups
 
@@ -94,7 +94,7 @@ joined_ascend model (group ∷ groups) [] all ascend = absurd all
 joined_ascend model (group ∷ groups) (row ∷ rows) all ascend =
     ascend_from row rows ∙ ap (λ xs. rows_from xs rows) all.0.cells ∙ joined_from model group.cells groups rows all.1 ∙ ascend
 
-all_in_order : (rows : List VRow) → is_in_order rows ≡ true → groups_ascend (groups_after None rows) ≡ true
+pub all_in_order : (rows : List VRow) → is_in_order rows ≡ true → groups_ascend (groups_after None rows) ≡ true
 all_in_order [] order = refl
 all_in_order (row ∷ rows) order = groups_in_order (group_of row) rows (sym (order_from row rows) ∙ order)
 
@@ -149,7 +149,7 @@ groups_pass test group (row ∷ rows) first all =
           ∙ both _ _ first (groups_pass test (group_of row) rows (both _ _ (and_first _ _ all) refl) (and_second _ _ all))
     ]
 
-all_groups_pass : (test : VRow → Bool) (rows : List VRow) → list_all test rows ≡ true → list_all (group_passes test) (groups_after None rows) ≡ true
+pub all_groups_pass : (test : VRow → Bool) (rows : List VRow) → list_all test rows ≡ true → list_all (group_passes test) (groups_after None rows) ≡ true
 all_groups_pass test [] all = refl
 all_groups_pass test (row ∷ rows) all = groups_pass test (group_of row) rows (both _ _ (and_first _ _ all) refl) (and_second _ _ all)
 

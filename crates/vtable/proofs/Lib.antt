@@ -1,4 +1,5 @@
 pub mod CellLaws
+pub mod ConfiguredLaws
 pub mod CutLaws
 pub mod DisjunctionLaws
 pub mod GroupLaws

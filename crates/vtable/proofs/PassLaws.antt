@@ -1,8 +1,8 @@
 -- One more column, cell or row in the passes.
-use Rattle.std.proofs.Common.{◌≡◌, ℕ, ◌+◌, ◌||◌, Bool, true, false, List, [], ◌∷◌, ◌++◌, length, map, Option, Some, None, refl, sym, ◌∙◌, ap, arith, append_assoc}
+use Rattle.std.proofs.Common.{◌≡◌, ℕ, ◌+◌, ◌||◌, Bool, true, false, List, [], ◌∷◌, ◌++◌, length, map, take, get_or, ◌<◌, Option, Some, None, refl, sym, ◌∙◌, ap, arith, append_assoc}
 use Rattle.std.specs.List.{filter_map}
 use Rattle.std.specs.Prelude.{reverse}
-use Rattle.std.proofs.lemmas.List.{reverse-append}
+use Rattle.std.proofs.lemmas.List.{reverse-append, take_more}
 use Rattle.std.specs.Option.{option_to_list}
 use Rattle.std.proofs.lemmas.List.Elements.{filter_map-append}
 use Rattle.feature_expr.specs.declared.value.Value.{Value}
@@ -39,3 +39,12 @@ list_of (Some y) = refl
 
 pub kept_push : {X Y : Type 0} (keep : X → Option Y) (xs : List X) (x : X) → filter_map keep (xs ++ x ∷ []) ≡ filter_map keep xs ++ option_to_list (keep x)
 kept_push keep xs x = filter_map-append keep xs (x ∷ []) ∙ ap (λ ys. filter_map keep xs ++ ys) (list_of (keep x))
+
+-- one more item is taken
+pub kept_more : {X Y : Type 0} (keep : X → Option Y) (xs : List X) (i : ℕ) (x : X) (out new : List Y) → i < length xs → x ≡ get_or xs i x → out ≡ filter_map keep (take i xs) → new ≡ out ++ option_to_list (keep x) → new ≡ filter_map keep (take (i + 1) xs)
+kept_more keep xs i x out new below is_x is_out is_new =
+    is_new
+    ∙ ap (λ ys. ys ++ option_to_list (keep x)) is_out
+    ∙ sym (kept_push keep (take i xs) x)
+    ∙ ap (λ y. filter_map keep (take i xs ++ y ∷ [])) is_x
+    ∙ ap (filter_map keep) (sym (take_more xs i x below))

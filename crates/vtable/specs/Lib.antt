@@ -1,4 +1,5 @@
 pub mod Answers
+pub mod Configured
 pub mod Disjunction
 pub mod Passes
 pub mod Possible

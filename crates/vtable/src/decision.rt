@@ -136,7 +136,7 @@ fn has_cell_in(cells: &[Option<Value>]) -> bool
     cells.iter().any(|cell| cell.is_some())
 }
 
-fn cut_cells(
+pub fn cut_cells(
     alloc: Global,
     fates: &[Fate],
     cells: List<Option<Value>>,

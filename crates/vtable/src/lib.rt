@@ -3,6 +3,7 @@
 #![tactic(auto)]
 
 mod columns;
+mod configured;
 mod decision;
 mod disjunction;
 mod group;
@@ -13,6 +14,7 @@ mod possible;
 mod same;
 mod table;
 
+pub use configured::configure;
 pub use out_table::{OutTable, normal};
 pub use plain::{Plain, PlainColumn};
 pub use possible::can_hold_means;
