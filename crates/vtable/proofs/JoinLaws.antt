@@ -12,10 +12,10 @@ use Rattle.condition_sat.specs.Admitted.{IsAdmitted}
 use Rattle.vtable.specs.declared.group.Group.{Group}
 use Rattle.vtable.specs.declared.table.VRow.{VRow}
 use Rattle.vtable.specs.Disjunction.{any_holds, conds_cost}
-use Rattle.vtable.specs.Possible.{can_hold, always_holds, some_admitted, is_true}
+use Rattle.vtable.specs.Possible.{can_hold, can_meet, always_holds, some_admitted, is_true}
 use Rattle.vtable.specs.TableForm.{settled, is_settled}
 use Rattle.vtable.specs.Passes.{IsJoined, AllJoined}
-use Rattle.vtable.proofs.PossibleLaws.{true_or_false, each_fails, some_admitted_same, some_admitted_of, admitted_of, or_left, or_right, and_first, both}
+use Rattle.vtable.proofs.PossibleLaws.{true_or_false, each_fails, some_admitted_same, some_admitted_of, none_admitted, admitted_of, or_left, or_right, and_first, both}
 use Rattle.vtable.proofs.DisjunctionLaws.{any_push, cost_push}
 
 step_pos : (x : Expr-F ℕ) → 1 ≤ weight_step x
@@ -25,6 +25,10 @@ step_pos (Expr-F.Feature i) = search rules
 step_pos (Expr-F.Not inner) = omega arith
 step_pos (Expr-F.And left right) = omega arith
 step_pos (Expr-F.Or left right) = omega arith
+
+and-true : (b : Bool) → (b && true) ≡ b
+and-true true = refl
+and-true false = refl
 
 pub weight_pos : (cond : Expr) → 1 ≤ weight_of cond
 weight_pos cond = subst (λ n. 1 ≤ n) (sym (fold_out-Expr ℕ weight_step cond)) (step_pos _)
@@ -141,3 +145,11 @@ joined_push model [] [] group row all one = (one, tt)
 joined_push model [] (r ∷ rows) group row all one = absurd all
 joined_push model (g ∷ groups) [] group row all one = absurd all
 joined_push model (g ∷ groups) (r ∷ rows) group row all one = (all.0, joined_push model groups rows group row all.1 one)
+
+-- the constant `true` always holds, and together with whatever can hold
+pub always_true : (model cond : Expr) → cond ≡ e.True → true ≡ always_holds model cond
+always_true model cond is = sym (ap not (none_admitted model (λ c. not (satisfies c cond)) (λ c admitted. ap not (ap (satisfies c) is ∙ satisfies_true c))))
+
+pub meets_true : (model cond column : Expr) → column ≡ e.True → can_hold model cond ≡ true → true ≡ can_meet model cond column
+meets_true model cond column is holds =
+    sym (some_admitted_same model (λ c. satisfies c cond && satisfies c column) (λ c. satisfies c cond) (λ c admitted. ap (λ b. satisfies c cond && b) (ap (satisfies c) is ∙ satisfies_true c) ∙ and-true (satisfies c cond)) ∙ holds)

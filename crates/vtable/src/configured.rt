@@ -18,6 +18,14 @@ pub fn configure(alloc: Global, table: &VTable, config: &Config) -> Result<Plain
     requires { IsAnswerAt config.now table.now }
     ensures { IfOk result (λ plain. IsConfigured config.now table.now plain) }
 {
+    let plain = made_plain(alloc, table, config)?;
+    Ok(plain)
+}
+
+/// The same. Of a table that isn't a well-formed answer nothing is said.
+pub fn made_plain(alloc: Global, table: &VTable, config: &Config) -> Result<Plain, Memory>
+    ensures { IfOk result (λ plain. IsAnswerAt config.now table.now → IsConfigured config.now table.now plain) }
+{
     let columns = columns_there(alloc, table.columns.as_slice(), config)?;
     if columns.is_empty() {
         return Ok(Plain::Absent);

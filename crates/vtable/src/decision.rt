@@ -2,6 +2,7 @@ ghost use Rattle.std.specs.Prelude.{◌≡◌, ◌++◌, ◌∷◌, true, map, r
 ghost use Rattle.feature_expr.specs.declared.expr.Expr.{Expr};
 ghost use Rattle.vtable.specs.declared.decision.Fate.{Fate};
 ghost use Rattle.vtable.specs.declared.table.VColumn.{VColumn};
+ghost use Rattle.vtable.specs.Possible.{can_hold, can_meet};
 ghost use Rattle.vtable.specs.Passes.{IsDecision, fate_of, cells_by, cell_by, row_staying};
 ghost use Rattle.vtable.specs.TableForm.{has_cell};
 
@@ -31,8 +32,7 @@ pub struct Decision {
     pub fates: Vec<Fate>,
 }
 
-/// Decides of the rows with a condition. Where it can't hold nothing else is asked, and a condition that always holds
-/// is asked of no column.
+/// Decides of the rows with a condition. Where it can't hold no column is asked for, nor is one that is always there.
 pub fn decide(
     alloc: Global,
     model: &Model,
@@ -61,6 +61,7 @@ fn fates_of(
     cond: &Expr,
     possible: bool,
 ) -> Result<Vec<Fate>, Memory>
+    requires { possible ≡ can_hold model.now cond.now }
     ensures { IfOk result (λ fates. possible ≡ true → fates.items ≡ map (fate_of model.now cond.now) columns.now) }
 {
     let mut fates = Vec::new(alloc);
@@ -75,16 +76,30 @@ fn fates_of(
 }
 
 fn fate_in(model: &Model, cond: &Expr, column: &Option<VColumn>) -> Result<Fate, Memory>
+    requires { can_hold model.now cond.now ≡ true }
     ensures { IfOk result (λ fate. fate ≡ fate_of model.now cond.now column.now) }
 {
     match column {
         None => Ok(Fate::Dropped),
         Some(column) => {
-            if meet_somewhere(model, cond, &column.cond)? {
+            if meets_column(model, cond, &column.cond)? {
                 Ok(Fate::Kept)
             } else {
                 Ok(Fate::Blanked)
             }
+        }
+    }
+}
+
+fn meets_column(model: &Model, cond: &Expr, column: &Expr) -> Result<bool, Memory>
+    requires { can_hold model.now cond.now ≡ true }
+    ensures { IfOk result (λ meets. meets ≡ can_meet model.now cond.now column.now) }
+{
+    match column {
+        Expr::True => Ok(true),
+        _ => {
+            let meets = meet_somewhere(model, cond, column)?;
+            Ok(meets)
         }
     }
 }

@@ -13,6 +13,8 @@ mod plain;
 mod possible;
 mod same;
 mod table;
+#[cfg(test)]
+mod tests;
 
 pub use configured::configure;
 pub use out_table::{OutTable, normal};

@@ -26,8 +26,8 @@ fn by_condition(rows: List<VRow>) -> Result<Vec<VRow>, Memory>
     Ok(rows)
 }
 
-#[tactic(auto, using(crate::proofs::PassLaws::kept_push))]
 /// The rows that stay, each cut to the columns that stay.
+#[tactic(auto, using(crate::proofs::PassLaws::kept_push))]
 fn cut_rows(
     alloc: Global,
     model: &Model,
@@ -118,11 +118,9 @@ pub fn normal(alloc: Global, model: &Model, table: VTable) -> Result<OutTable, M
     Ok(OutTable { table })
 }
 
-/// The passes, one after another.
-fn made_normal(alloc: Global, model: &Model, table: VTable) -> Result<VTable, Memory>
-    requires distinct { columns_are_distinct table.columns ≡ true }
-    requires answers { (c : Items ℕ) → IsAdmitted model.now c → IsAnswerAt c table }
-    ensures { IfOk result (λ after. IsNormalOf model.now table after) }
+/// The passes, one after another. Of a table that isn't a well-formed answer nothing is said.
+pub fn made_normal(alloc: Global, model: &Model, table: VTable) -> Result<VTable, Memory>
+    ensures { IfOk result (λ after. columns_are_distinct table.columns ≡ true → ((c : Items ℕ) → IsAdmitted model.now c → IsAnswerAt c table) → IsNormalOf model.now table after) }
 {
     let VTable { columns, rows } = table;
     let columns = decided_columns(alloc, model, columns)?;

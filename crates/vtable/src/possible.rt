@@ -27,6 +27,15 @@ pub fn meet_somewhere(model: &Model, one: &Expr, other: &Expr) -> Result<bool, M
 pub fn holds_always(model: &Model, cond: &Expr) -> Result<bool, Memory>
     ensures { IfOk result (λ answer. answer ≡ always_holds model.now cond.now) }
 {
+    match cond {
+        Expr::True => Ok(true),
+        _ => all_satisfy(model, cond),
+    }
+}
+
+fn all_satisfy(model: &Model, cond: &Expr) -> Result<bool, Memory>
+    ensures { IfOk result (λ answer. answer ≡ always_holds model.now cond.now) }
+{
     let always = model.always(cond)?;
     Ok(always)
 }

@@ -5,7 +5,7 @@ use Rattle.vtable.proofs.NormalLaws.{normal_is}
 use Rattle.vtable.proofs.out_table.made_normal.Goals as goal
 
 pub returns : goal.returns
-returns c =
+returns c = λ distinct answers.
     normal_is c.args.model.now c.args.table _ (record {
       moved = c.in_ok-rows.rows.items;
       cut = c.in_ok-rows-2.rows.items;
@@ -16,4 +16,4 @@ returns c =
       in_order = c.in_ok-rows-3.ensures.order;
       joined = subst (λ gs. AllJoined c.args.model.now gs c.in_ok-rows-4.rows) c.in_ok-groups.ensures c.in_ok-rows-4.ensures;
       columns = c.in_ok-columns-2.ensures ∙ ap staying c.in_ok-columns.ensures;
-    }) c.requires.distinct c.requires.answers
+    }) distinct answers

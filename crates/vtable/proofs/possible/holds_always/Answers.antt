@@ -1,5 +1,5 @@
-use Rattle.vtable.proofs.PossibleLaws.{always_says}
+use Rattle.vtable.proofs.JoinLaws.{always_true}
 use Rattle.vtable.proofs.possible.holds_always.Goals as goal
 
-pub returns : goal.returns
-returns c = always_says _ _ _ c.in_ok-always.ensures.yes c.in_ok-always.ensures.no
+pub returns-in-True : goal.returns-in-True
+returns-in-True c = always_true _ _ c.in-True.is
