@@ -1,0 +1,12 @@
+pub mod CellLaws
+pub mod ConfiguredLaws
+pub mod CutLaws
+pub mod DisjunctionLaws
+pub mod GroupLaws
+pub mod JoinLaws
+pub mod JoinedLaws
+pub mod NormalLaws
+pub mod PassLaws
+pub mod PossibleLaws
+pub mod RowsLaws
+pub mod StayingLaws

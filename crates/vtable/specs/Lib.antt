@@ -1,1 +1,6 @@
 pub mod Answers
+pub mod Configured
+pub mod Disjunction
+pub mod Passes
+pub mod Possible
+pub mod TableForm

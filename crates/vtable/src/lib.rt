@@ -2,8 +2,22 @@
 //! that say in which variants they are there.
 #![tactic(auto)]
 
+mod columns;
+mod configured;
+mod decision;
+mod disjunction;
+mod group;
+mod join;
+mod out_table;
 mod plain;
+mod possible;
+mod same;
 mod table;
+#[cfg(test)]
+mod tests;
 
+pub use configured::configure;
+pub use out_table::{OutTable, normal};
 pub use plain::{Plain, PlainColumn};
+pub use possible::can_hold_means;
 pub use table::{VColumn, VRow, VTable};

@@ -1,0 +1,8 @@
+use Rattle.vtable.proofs.PossibleLaws.{some_admitted_of, admitted_of}
+use Rattle.vtable.proofs.possible.can_hold_means.Goals as goal
+
+pub returns-clause-held : goal.returns-clause-held
+returns-clause-held c = some_admitted_of
+
+pub returns-clause-found : goal.returns-clause-found
+returns-clause-found c = admitted_of
