@@ -5,7 +5,10 @@ mod ExprLaws
 mod FeatureLists
 mod KnownLaws
 mod NegationLaws
+mod OneLaws
 mod PlaceLaws
 mod PrintLaws
 mod QuoteLaws
+mod ReadingLaws
 mod TextLaws
+mod WholeLaws

@@ -2,7 +2,8 @@ ghost use Rattle.std.specs.Prelude.{◌≡◌, ℕ, true, false, ◌<◌, ◌≤
 ghost use Rattle.std.specs.Option.{option_copied};
 ghost use Rattle.feature_expr.specs.Tokens.{bytes_of, is_word_at, is_mark_at, place_at, AreTokens};
 ghost use Rattle.feature_expr.specs.ExprGrammar.{Disjunction, Conjunction, Negation, sign_of_kind, sign_of_word, sign_of_mark, sign_at, feature_at, IsToken, IsRead, IsRefused, AreKnown, IsFirst, Spells};
-ghost use Rattle.feature_expr.specs.ExprTexts.{IsViable, IsFault, IsText, IsRefusedText, placed_at};
+ghost use Rattle.feature_expr.specs.ExprTexts.{IsViable, IsFault, IsText, IsRefusedText, Gives, placed_at};
+ghost use Rattle.feature_expr.specs.declared.expr.Expr.{Expr};
 ghost use Rattle.feature_expr.specs.declared.parse.Fault.TheVariants as fault;
 ghost use Rattle.feature_expr.specs.declared.parse.Sign.TheVariants as sign;
 
@@ -68,6 +69,7 @@ pub fn parse_expr(
 ) -> Result<Expr, ExprRefused>
     ensures ok { IfOk result (λ expr. IsText features.now text.now max_nesting expr) }
     ensures err { IfErr result (λ why. IsRefusedText features.now text.now max_nesting why) }
+    ensures read { (expr : Expr) → IsText features.now text.now max_nesting expr → Gives expr result }
 {
     let tokens = match tokens(alloc, text) {
         Ok(tokens) => tokens,
