@@ -4,11 +4,15 @@ mod ConfigBits
 mod ExprLaws
 mod FeatureLists
 mod KnownLaws
+mod NameLaws
 mod NegationLaws
 mod OneLaws
 mod PlaceLaws
 mod PrintLaws
+mod PrintedLaws
 mod QuoteLaws
 mod ReadingLaws
+mod StandLaws
 mod TextLaws
 mod WholeLaws
+mod WrittenLaws
