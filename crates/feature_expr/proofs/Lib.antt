@@ -14,5 +14,6 @@ mod QuoteLaws
 mod ReadingLaws
 mod StandLaws
 mod TextLaws
+mod TokenLaws
 mod WholeLaws
 mod WrittenLaws

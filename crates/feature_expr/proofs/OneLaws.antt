@@ -1,11 +1,11 @@
 -- A text has one list of tokens, and is at most one expression.
-use Rattle.std.proofs.Common.{◌≡◌, ◌≢◌, ℕ, ◌<◌, List, [], ◌∷◌, length, refl, arith, ap}
+use Rattle.std.proofs.Common.{◌≡◌, ℕ, List, [], ◌∷◌, refl, arith}
 use Rattle.feature_expr.specs.declared.expr.Expr.{Expr}
 use Rattle.feature_expr.specs.declared.parse.Sign.TheVariants as sign
 use Rattle.feature_expr.specs.declared.token.Token.{Token}
 use Rattle.feature_expr.specs.declared.token.TokenKind.{TokenKind}
 use Rattle.feature_expr.specs.declared.token.TokenKind.TheVariants as kind
-use Rattle.feature_expr.specs.Tokens.{IfBad, StandAt, AreTokens, token_at, blank_end}
+use Rattle.feature_expr.specs.Tokens.{IfBad, StandAt, AreTokens, blank_end}
 use Rattle.feature_expr.specs.ExprGrammar.{Disjunction, sign_at, Spells}
 use Rattle.feature_expr.specs.ExprTexts.{IsText}
 use Rattle.feature_expr.proofs.ReadingLaws.{one_spelling}

@@ -1,5 +1,5 @@
 -- A printed text is the expression that was printed.
-use Rattle.std.proofs.Common.{◌≡◌, ℕ, zero, suc, ◌+◌, ◌-◌, ◌<◌, ◌≤◌, ◌==◌, max, ◌||◌, Bool, true, false, IsTrue, List, [], ◌∷◌, ◌++◌, drop, get_or, Some, None, slice_get, length, refl, sym, subst, ap, ◌∙◌, append_assoc, arith, rules}
+use Rattle.std.proofs.Common.{◌≡◌, ℕ, ◌+◌, ◌-◌, ◌<◌, ◌≤◌, ◌==◌, max, ◌||◌, Bool, true, false, IsTrue, List, [], ◌∷◌, ◌++◌, drop, get_or, Some, None, length, refl, sym, subst, ap, ◌∙◌, append_assoc, arith}
 use Rattle.std.specs.Prelude.{codes}
 use Rattle.std.proofs.lemmas.Bool.Decides.{nat_tests}
 use Rattle.std.proofs.lemmas.Option.{slice_get-get_or, slice_get_past}
@@ -19,8 +19,8 @@ use Rattle.feature_expr.specs.Names.{is_word_of, refusal}
 use Rattle.feature_expr.specs.Tokens.{StandAt, AreTokens, blank_end}
 use Rattle.feature_expr.specs.ExprTexts.{IsText}
 use Rattle.feature_expr.specs.Expressions.{mentions_step, mentions}
-use Rattle.feature_expr.specs.Printing.{takes_and, takes_or, opening, closing, name_of, text_step, text_at, bracket_count, nesting_step, nesting_at, text_nesting, text_of, HasNames}
-use Rattle.feature_expr.specs.ExprGrammar.{Part, Disjunction, Conjunction, Negation, sign_at, sign_of_kind, feature_at}
+use Rattle.feature_expr.specs.Printing.{takes_and, takes_or, text_step, text_at, bracket_count, nesting_step, nesting_at, text_nesting, text_of, HasNames}
+use Rattle.feature_expr.specs.ExprGrammar.{Part, Disjunction, Conjunction, Negation, sign_at, feature_at}
 use Rattle.feature_expr.proofs.NameLaws.{feature_name, name_sign, named_word}
 use Rattle.feature_expr.proofs.PrintLaws.{text_at-True, text_at-False, text_at-Feature, text_at-And, text_at-Or}
 use Rattle.feature_expr.proofs.StandLaws.{EndsWord, TokenIs, Stands, drop_past, word_stands, open_stands, close_stands, space_stands, sign_is}

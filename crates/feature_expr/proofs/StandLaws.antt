@@ -1,7 +1,6 @@
 -- How tokens stand in a text whose words and signs are known.
-use Rattle.std.proofs.Common.{◌≡◌, ◌≢◌, ℕ, zero, suc, ◌+◌, ◌-◌, ◌<◌, ◌≤◌, ◌==◌, ◌&&◌, Bool, true, false, if◌then◌else◌, List, [], ◌∷◌, ◌++◌, take, drop, get_or, slice_get, slice_index, Some, length, refl, sym, ap, ◌∙◌, arith, rules, add-one}
+use Rattle.std.proofs.Common.{◌≡◌, ℕ, zero, suc, ◌+◌, ◌-◌, ◌<◌, ◌≤◌, ◌==◌, ◌&&◌, Bool, true, false, List, [], ◌∷◌, ◌++◌, drop, get_or, slice_get, Some, length, refl, sym, ap, ◌∙◌, arith, add-one}
 use Rattle.std.specs.List.{list_all, prefix_len, slice_range}
-use Rattle.std.specs.Char.{is_ascii_digit}
 use Rattle.std.proofs.Math.Seq.{drop-append_seam, take-append_seam}
 use Rattle.std.proofs.lemmas.List.{drop-drop}
 use Rattle.std.proofs.lemmas.Bool.Decides.{nat_tests}
@@ -9,7 +8,7 @@ use Rattle.feature_expr.specs.declared.token.Token.{Token}
 use Rattle.feature_expr.specs.declared.token.TokenKind.{TokenKind}
 use Rattle.feature_expr.specs.declared.token.TokenKind.TheVariants as kind
 use Rattle.feature_expr.specs.Names.{starts_word, continues_word, is_word_of}
-use Rattle.feature_expr.specs.Tokens.{is_white, comment_at, blank_end, run_end, Scanned, scanned, scanned_at, token_at, IfBad, StandAt, bytes_of}
+use Rattle.feature_expr.specs.Tokens.{is_white, blank_end, run_end, scanned, scanned_at, IfBad, StandAt, bytes_of}
 use Rattle.feature_expr.specs.ExprGrammar.{sign_of_kind, sign_at}
 use Rattle.feature_expr.proofs.BlankLaws.{blank_white, blank_stop}
 
@@ -32,7 +31,7 @@ slice_past text b xs post is =
 starts_plain : (x : ℕ) → starts_word x ≡ true → (is_white x ≡ false) × ((x == 45) ≡ false)
 starts_plain x h = (grind (arith, nat_tests), grind (arith, nat_tests))
 
-starts_on : (x : ℕ) → starts_word x ≡ true → continues_word x ≡ true
+pub starts_on : (x : ℕ) → starts_word x ≡ true → continues_word x ≡ true
 starts_on x h = grind (arith, nat_tests)
 
 -- no word goes on there
