@@ -6,6 +6,8 @@ mod FeatureLists
 mod KnownLaws
 mod NameLaws
 mod NegationLaws
+mod NestingLaws
+mod OccurringLaws
 mod OneLaws
 mod PlaceLaws
 mod PrintLaws

@@ -32,25 +32,25 @@ part_at position.Operand n = Negation n
 part_at position.Conjunct n = Conjunction n
 part_at position.Disjunct n = Disjunction n
 
-nesting_And : (left right : Expr) (p : Position) → nesting_at (e.And left right) p ≡ bracket_count (takes_and p) + max (nesting_at left position.Conjunct) (nesting_at right position.Operand)
+pub nesting_And : (left right : Expr) (p : Position) → nesting_at (e.And left right) p ≡ bracket_count (takes_and p) + max (nesting_at left position.Conjunct) (nesting_at right position.Operand)
 nesting_And left right p = ap (λ (x : Expr). nesting_at x p) (sym (rolls-And left right)) ∙ ap (λ (f : Position → ℕ). f p) (fold-roll-Expr (Position → ℕ) nesting_step (Expr-F.And left right))
 
-nesting_Or : (left right : Expr) (p : Position) → nesting_at (e.Or left right) p ≡ bracket_count (takes_or p) + max (nesting_at left position.Disjunct) (nesting_at right position.Conjunct)
+pub nesting_Or : (left right : Expr) (p : Position) → nesting_at (e.Or left right) p ≡ bracket_count (takes_or p) + max (nesting_at left position.Disjunct) (nesting_at right position.Conjunct)
 nesting_Or left right p = ap (λ (x : Expr). nesting_at x p) (sym (rolls-Or left right)) ∙ ap (λ (f : Position → ℕ). f p) (fold-roll-Expr (Position → ℕ) nesting_step (Expr-F.Or left right))
 
-nesting_Not : (inner : Expr) (p : Position) → nesting_at (e.Not inner) p ≡ 1 + nesting_at inner position.Operand
+pub nesting_Not : (inner : Expr) (p : Position) → nesting_at (e.Not inner) p ≡ 1 + nesting_at inner position.Operand
 nesting_Not inner p = ap (λ (x : Expr). nesting_at x p) (sym (rolls-Not inner)) ∙ ap (λ (f : Position → ℕ). f p) (fold-roll-Expr (Position → ℕ) nesting_step (Expr-F.Not inner))
 
 text_Not : (names : List (List ℕ)) (inner : Expr) (p : Position) → text_at names (e.Not inner) p ≡ codes "not " ++ text_at names inner position.Operand
 text_Not names inner p = ap (λ (x : Expr). text_at names x p) (sym (rolls-Not inner)) ∙ ap (λ (f : Position → List ℕ). f p) (fold-roll-Expr (Position → List ℕ) (text_step names) (Expr-F.Not inner))
 
-mentions_And : (i : ℕ) (left right : Expr) → mentions i (e.And left right) ≡ (mentions i left || mentions i right)
+pub mentions_And : (i : ℕ) (left right : Expr) → mentions i (e.And left right) ≡ (mentions i left || mentions i right)
 mentions_And i left right = ap (mentions i) (sym (rolls-And left right)) ∙ fold-roll-Expr Bool (mentions_step i) (Expr-F.And left right)
 
-mentions_Or : (i : ℕ) (left right : Expr) → mentions i (e.Or left right) ≡ (mentions i left || mentions i right)
+pub mentions_Or : (i : ℕ) (left right : Expr) → mentions i (e.Or left right) ≡ (mentions i left || mentions i right)
 mentions_Or i left right = ap (mentions i) (sym (rolls-Or left right)) ∙ fold-roll-Expr Bool (mentions_step i) (Expr-F.Or left right)
 
-mentions_Not : (i : ℕ) (inner : Expr) → mentions i (e.Not inner) ≡ mentions i inner
+pub mentions_Not : (i : ℕ) (inner : Expr) → mentions i (e.Not inner) ≡ mentions i inner
 mentions_Not i inner = ap (mentions i) (sym (rolls-Not inner)) ∙ fold-roll-Expr Bool (mentions_step i) (Expr-F.Not inner)
 
 same_number : (i : ℕ) → (i == i) ≡ true

@@ -9,12 +9,12 @@ use Rattle.feature_expr.specs.declared.token.Token.{Token}
 use Rattle.feature_expr.specs.ExprGrammar.{Part, Disjunction, MoreOr, Conjunction, MoreAnd, Negation, sign_at, feature_at, Spells, one_conjunction, disjunction, one_negation, conjunction, negation, truth, falsehood, feature, brackets}
 
 -- a part that is read, or what stands behind the first token of one
-data Stage : Type 0 where
+pub data Stage : Type 0 where
   Whole : (part : Part) → Stage
   Begun : (sign : Sign) (nesting : ℕ) → Stage
 
 -- what is read from a place on, behind what was read before, and where it ends
-data Reads (names : List (List ℕ)) (text : List ℕ) (tokens : List Token) : Stage → Expr → ℕ → Expr → ℕ → Type 0 where
+pub data Reads (names : List (List ℕ)) (text : List ℕ) (tokens : List Token) : Stage → Expr → ℕ → Expr → ℕ → Type 0 where
   first_or : (n at middle end : ℕ) (before first expr : Expr) → Reads names text tokens (Whole (Conjunction n)) before at first middle → Reads names text tokens (Whole (MoreOr n)) first middle expr end → Reads names text tokens (Whole (Disjunction n)) before at expr end
   no_or : (n at : ℕ) (before : Expr) → sign_at text tokens at ≢ sign.Or → Reads names text tokens (Whole (MoreOr n)) before at before at
   next_or : (n at middle end : ℕ) (before right expr : Expr) → sign_at text tokens at ≡ sign.Or → Reads names text tokens (Whole (Conjunction n)) before (at + 1) right middle → Reads names text tokens (Whole (MoreOr n)) (e.Or before right) middle expr end → Reads names text tokens (Whole (MoreOr n)) before at expr end
@@ -64,13 +64,13 @@ module _ (names : List (List ℕ)) (text : List ℕ) (tokens : List Token) where
       rw (a.0, a.1) (refl, refl)
 
   -- what is spelled is read on from where it ends
-  abbrev Onward : Part → ℕ → Expr → ℕ → Type 0
+  abbrev pub Onward : Part → ℕ → Expr → ℕ → Type 0
   Onward (Disjunction n) at expr end = (before y : Expr) (to : ℕ) → sign_at text tokens end ≢ sign.And → Reads names text tokens (Whole (MoreOr n)) expr end y to → Reads names text tokens (Whole (Disjunction n)) before at y to
   Onward (Conjunction n) at expr end = (before y : Expr) (to : ℕ) → Reads names text tokens (Whole (MoreAnd n)) expr end y to → Reads names text tokens (Whole (Conjunction n)) before at y to
   Onward (Negation n) at expr end = (before : Expr) → Reads names text tokens (Whole (Negation n)) before at expr end
   Onward _ at expr end = Unit {0}
 
-  onward : (part : Part) (at : ℕ) (expr : Expr) (end : ℕ) → Spells names text tokens part at expr end → Onward part at expr end
+  pub onward : (part : Part) (at : ℕ) (expr : Expr) (end : ℕ) → Spells names text tokens part at expr end → Onward part at expr end
   onward part a x z (one_conjunction n at end expr d) =
       λ before y to other more. first_or n at end to before expr y (onward (Conjunction n) at expr end d before expr end (no_and n end expr other)) more
   onward part a x z (disjunction n at middle end left right d is d') =

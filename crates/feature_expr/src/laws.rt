@@ -20,4 +20,6 @@ pub fn expression_laws()
     ensures faultless { (names : List (List ℕ)) (text : List ℕ) (most : ℕ) (expr : Expr) (why : ExprRefused) → IsText names text most expr → IsRefusedText names text most why → why ≡ refused.Memory }
     // The text of an expression is that expression, where it nests within the limit and each feature has a name.
     ensures printed { (names : List (List ℕ)) (most : ℕ) (expr : Expr) → refusal names ≡ None → HasNames names expr → text_nesting expr ≤ most → IsText names (text_of names expr) most expr }
+    // What is read within a limit is printed within it.
+    ensures again { (names : List (List ℕ)) (text : List ℕ) (most : ℕ) (expr : Expr) → refusal names ≡ None → IsText names text most expr → IsText names (text_of names expr) most expr }
 {}
