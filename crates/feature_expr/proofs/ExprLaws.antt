@@ -32,7 +32,7 @@ module _ (names : List (List ℕ)) (text : List ℕ) (tokens : List Token) (most
       let c = close_sign (forms outer limit) (fits fitting text tokens) (Own sign.Or) (Nonterminal (Conjunction n) ∷ Nonterminal (MoreOr n) ∷ s) at to order m in cc (fit, c.0)
   or_never outer fitting limit n s at to fit order free (inr (inr none)) = none
 
-  or_chain : (outer : ℕ → List (List (Symbol Part Mark))) (fitting : ℕ → ℕ → Bool) (limit n : ℕ) → IsChain (forms outer limit) (fits fitting text tokens) (Disjunction n) (Conjunction n) (MoreOr n) (Own sign.Or) (Own sign.Or ∷ Own sign.And ∷ []) (Own sign.And ∷ [])
+  pub or_chain : (outer : ℕ → List (List (Symbol Part Mark))) (fitting : ℕ → ℕ → Bool) (limit n : ℕ) → IsChain (forms outer limit) (fits fitting text tokens) (Disjunction n) (Conjunction n) (MoreOr n) (Own sign.Or) (Own sign.Or ∷ Own sign.And ∷ []) (Own sign.And ∷ [])
   or_chain outer fitting limit n = record {
     whole_forms = refl;
     more_forms = refl;
@@ -40,7 +40,7 @@ module _ (names : List (List ℕ)) (text : List ℕ) (tokens : List Token) (most
     first = λ s free. free.0;
   }
 
-  and_chain : (outer : ℕ → List (List (Symbol Part Mark))) (fitting : ℕ → ℕ → Bool) (limit n : ℕ) → IsChain (forms outer limit) (fits fitting text tokens) (Conjunction n) (Negation n) (MoreAnd n) (Own sign.And) (Own sign.And ∷ []) []
+  pub and_chain : (outer : ℕ → List (List (Symbol Part Mark))) (fitting : ℕ → ℕ → Bool) (limit n : ℕ) → IsChain (forms outer limit) (fits fitting text tokens) (Conjunction n) (Negation n) (MoreAnd n) (Own sign.And) (Own sign.And ∷ []) []
   and_chain outer fitting limit n = record {
     whole_forms = refl;
     more_forms = refl;

@@ -50,10 +50,10 @@ module _ (outer : ℕ → List (List (Symbol Part Mark))) (fitting : ℕ → ℕ
     free = λ s free. tt;
   }
 
-  never_or : (s : List (Symbol Part Mark)) → NeverFirst (forms outer limit) (fits fitting text tokens) (Own sign.Or) (Terminal (Own sign.Close) ∷ s)
+  pub never_or : (s : List (Symbol Part Mark)) → NeverFirst (forms outer limit) (fits fitting text tokens) (Own sign.Or) (Terminal (Own sign.Close) ∷ s)
   never_or s at to fit order m = let c = close_sign (forms outer limit) (fits fitting text tokens) (Own sign.Close) s at to order m in cc (fit, c.0)
 
-  never_and : (s : List (Symbol Part Mark)) → NeverFirst (forms outer limit) (fits fitting text tokens) (Own sign.And) (Terminal (Own sign.Close) ∷ s)
+  pub never_and : (s : List (Symbol Part Mark)) → NeverFirst (forms outer limit) (fits fitting text tokens) (Own sign.And) (Terminal (Own sign.Close) ∷ s)
   never_and s at to fit order m = let c = close_sign (forms outer limit) (fits fitting text tokens) (Own sign.Close) s at to order m in cc (fit, c.0)
 
   pub to_open : (at : ℕ) → n < limit → fits fitting text tokens (Own sign.Open) at → Through (forms outer limit) (fits fitting text tokens) [] (Negation n) at (Own sign.Or ∷ Own sign.And ∷ []) (Disjunction (n + 1)) (at + 1) (Terminal (Own sign.Close) ∷ [])

@@ -21,10 +21,10 @@ pub texts_behind_push : (names : List (List ℕ)) (rs : List Rest) (r : Rest) �
 texts_behind_push names [] r = sym (append-nil _)
 texts_behind_push names (s ∷ rs) r = rw (texts_behind_push names rs r, append_assoc)
 
-text_at-And : (names : List (List ℕ)) (left right : Expr) (p : Position) → text_at names (e.And left right) p ≡ opening (takes_and p) ++ text_at names left position.Conjunct ++ codes " and " ++ text_at names right position.Operand ++ closing (takes_and p)
+pub text_at-And : (names : List (List ℕ)) (left right : Expr) (p : Position) → text_at names (e.And left right) p ≡ opening (takes_and p) ++ text_at names left position.Conjunct ++ codes " and " ++ text_at names right position.Operand ++ closing (takes_and p)
 text_at-And names left right p = ap (λ (x : Expr). text_at names x p) (sym (rolls-And left right)) ∙ ap (λ (f : Position → List ℕ). f p) (fold-roll-Expr (Position → List ℕ) (text_step names) (Expr-F.And left right))
 
-text_at-Or : (names : List (List ℕ)) (left right : Expr) (p : Position) → text_at names (e.Or left right) p ≡ opening (takes_or p) ++ text_at names left position.Disjunct ++ codes " or " ++ text_at names right position.Conjunct ++ closing (takes_or p)
+pub text_at-Or : (names : List (List ℕ)) (left right : Expr) (p : Position) → text_at names (e.Or left right) p ≡ opening (takes_or p) ++ text_at names left position.Disjunct ++ codes " or " ++ text_at names right position.Conjunct ++ closing (takes_or p)
 text_at-Or names left right p = ap (λ (x : Expr). text_at names x p) (sym (rolls-Or left right)) ∙ ap (λ (f : Position → List ℕ). f p) (fold-roll-Expr (Position → List ℕ) (text_step names) (Expr-F.Or left right))
 
 pub text_at-True : (names : List (List ℕ)) (p : Position) → text_at names e.True p ≡ codes "true"

@@ -18,7 +18,7 @@ module _ (names : List (List ℕ)) (text : List ℕ) (tokens : List Token) (most
   never_and : (limit : ℕ) → NeverFirst (forms alone limit) (fits none_fits text tokens) (Own sign.And) (Terminal (Own sign.End) ∷ [])
   never_and limit at to fit order m = let c = close_sign (forms alone limit) (fits none_fits text tokens) (Own sign.End) [] at to order m in cc (fit, c.0)
 
-  end_free : (limit : ℕ) → IsFree (forms alone limit) (fits none_fits text tokens) (Own sign.Or ∷ Own sign.And ∷ []) (Terminal (Own sign.End) ∷ [])
+  pub end_free : (limit : ℕ) → IsFree (forms alone limit) (fits none_fits text tokens) (Own sign.Or ∷ Own sign.And ∷ []) (Terminal (Own sign.End) ∷ [])
   end_free limit = (never_or limit, (never_and limit, tt))
 
   pub is_fault : (f : Fault) → IsRefused names text tokens most (Disjunction 0) 0 f → IsFault names text tokens most f

@@ -1,5 +1,5 @@
 -- Texts that are expressions, and why others aren't.
-use Rattle.std.specs.Prelude.{Bool, false, ◌≡◌, ℕ, ◌+◌, ◌<◌, ◌≤◌, List, [], ◌∷◌, None}
+use Rattle.std.specs.Prelude.{Bool, false, ◌≡◌, ℕ, ◌+◌, ◌<◌, ◌≤◌, List, [], ◌∷◌, None, Result, Ok, Err}
 use Rattle.feature_expr.specs.Grammar.{Symbol, Terminal, Nonterminal, Matches}
 use Rattle.feature_expr.specs.Tokens.{AreTokens, place_at}
 use Rattle.feature_expr.specs.ExprGrammar.{Part, Mark, Own, Disjunction, forms, fits, sign_at, feature_at, IsFirst, Spells}
@@ -64,3 +64,8 @@ pub record Refusal (names : List (List ℕ)) (text : List ℕ) (most : ℕ) (why
 abbrev pub IsRefusedText : List (List ℕ) → List ℕ → ℕ → ExprRefused → Type 0
 IsRefusedText names text most refused.Memory = Unit {0}
 IsRefusedText names text most why = Refusal names text most why
+
+-- the answer is this expression, or memory ran out
+abbrev pub Gives : Expr → Result Expr ExprRefused → Type 0
+Gives expr (Ok found) = found ≡ expr
+Gives expr (Err why) = why ≡ refused.Memory

@@ -1,7 +1,8 @@
 -- The text of an expression, with single spaces and the fewest brackets.
-use Rattle.std.specs.Prelude.{ℕ, Bool, true, false, List, [], ◌++◌, codes, slice_get, unwrap_or}
+use Rattle.std.specs.Prelude.{ℕ, ◌+◌, ◌<◌, max, IsTrue, length, Bool, true, false, List, [], ◌++◌, codes, slice_get, unwrap_or}
 use Rattle.feature_expr.specs.declared.expr.Expr.{Expr, fold-Expr}
 use Rattle.feature_expr.specs.declared.expr.Expr.TheOpen.{Expr-F}
+use Rattle.feature_expr.specs.Expressions.{mentions}
 use Rattle.feature_expr.specs.declared.print.Position.{Position}
 use Rattle.feature_expr.specs.declared.print.Position.TheVariants as position
 
@@ -47,3 +48,28 @@ text_at names e = fold-Expr (Position → List ℕ) (text_step names) e
 -- the text of an expression alone
 abbrev pub text_of : List (List ℕ) → Expr → List ℕ
 text_of names e = text_at names e position.Disjunct
+
+-- how many brackets stand round a chain
+abbrev pub bracket_count : Bool → ℕ
+bracket_count true = 0
+bracket_count false = 1
+
+-- how deep brackets and `not` nest in the text of a node at a position, where it is known of its parts
+abbrev pub nesting_step : Expr-F (Position → ℕ) → Position → ℕ
+nesting_step Expr-F.True at = 0
+nesting_step Expr-F.False at = 0
+nesting_step (Expr-F.Feature feature) at = 0
+nesting_step (Expr-F.Not inner) at = 1 + inner position.Operand
+nesting_step (Expr-F.And left right) at = bracket_count (takes_and at) + max (left position.Conjunct) (right position.Operand)
+nesting_step (Expr-F.Or left right) at = bracket_count (takes_or at) + max (left position.Disjunct) (right position.Conjunct)
+
+abbrev pub nesting_at : Expr → Position → ℕ
+nesting_at e = fold-Expr (Position → ℕ) nesting_step e
+
+-- how deep they nest in the text of an expression alone
+abbrev pub text_nesting : Expr → ℕ
+text_nesting e = nesting_at e position.Disjunct
+
+-- each feature that occurs has a name
+abbrev pub HasNames : List (List ℕ) → Expr → Type 0
+HasNames names expr = (i : ℕ) → IsTrue (mentions i expr) → i < length names

@@ -158,6 +158,11 @@ StandAt text at (token ∷ tokens) =
 pub record AreTokens (text : List ℕ) (tokens : List Token) : Type 0 where
   pub stand : StandAt text (blank_end text 0) tokens
 
+-- a text has tokens
+pub record HasTokens (text : List ℕ) : Type 0 where
+  pub tokens : List Token
+  pub are_tokens : AreTokens text tokens
+
 -- the bytes of a token
 abbrev pub bytes_of : List ℕ → Token → List ℕ
 bytes_of text token = slice_range text token.start token.end

@@ -1,3 +1,7 @@
+use Rattle.feature_expr.proofs.OneLaws.{one_text}
+use Rattle.feature_expr.proofs.PrintedLaws.{printed_text}
+use Rattle.feature_expr.proofs.TextLaws.{refused_text}
+use Rattle.feature_expr.proofs.WholeLaws.{refused_for_memory}
 use Rattle.feature_expr.proofs.parse.parse_expr.Goals as goal
 
 pub returns-in-Ok-whole_expression-clause-ok : goal.returns-in-Ok-whole_expression-clause-ok
@@ -9,3 +13,15 @@ returns-in-Ok-whole_expression-clause-ok c = record {
   viable = rw (c.as_bytes.ensures.value, c.as_slice.ensures) at c.in-Ok-whole_expression.ensures.viable;
   spelled = rw (c.as_bytes.ensures.value, c.as_slice.ensures) at c.in-Ok-whole_expression.ensures.spelled;
 }
+
+pub returns-in-Ok-whole_expression-clause-read : goal.returns-in-Ok-whole_expression-clause-read
+returns-in-Ok-whole_expression-clause-read c = λ expr t. one_text c.args.features.now c.args.text.now c.args.max_nesting c.args.max_nesting c.in-Ok-whole_expression.expr expr (returns-in-Ok-whole_expression-clause-ok c) t
+
+pub returns-clause-read : goal.returns-clause-read
+returns-clause-read c = λ expr t. refused_for_memory c.args.features.now c.args.text.now c.args.max_nesting expr c.placed.result t (refused_text c.args.features.now c.args.text.now c.in-Ok.tokens c.args.max_nesting c.in-Err-whole_expression.fault c.placed.result c.in-Ok.ensures (rw (c.as_bytes.ensures.value, c.as_slice.ensures) at c.in-Err-whole_expression.ensures.refused) (rw (c.as_bytes.ensures.value, c.as_slice.ensures) at c.in-Err-whole_expression.ensures.first) (rw c.as_slice-in-Err-whole_expression.ensures at c.placed.ensures))
+
+pub returns-in-Ok-whole_expression-clause-printed : goal.returns-in-Ok-whole_expression-clause-printed
+returns-in-Ok-whole_expression-clause-printed c = λ expr named nests is. returns-in-Ok-whole_expression-clause-read c expr (printed_text c.args.features.now c.args.text.now c.in-Ok.tokens c.args.max_nesting expr c.count-names.ensures.names named nests is c.in-Ok.ensures)
+
+pub returns-clause-printed : goal.returns-clause-printed
+returns-clause-printed c = λ expr named nests is. returns-clause-read c expr (printed_text c.args.features.now c.args.text.now c.in-Ok.tokens c.args.max_nesting expr c.count-names.ensures.names named nests is c.in-Ok.ensures)
