@@ -19,7 +19,7 @@ not_equal Less h k = search rules
 not_equal Equal h k = search rules
 not_equal Greater h k = search rules
 
-value_is : (one other : Value) → value_cmp one other ≡ Equal → one ≡ other
+pub value_is : (one other : Value) → value_cmp one other ≡ Equal → one ≡ other
 value_is (value.Int one) (value.Int other) h = ap value.Int (exact_signed one other h)
 value_is (value.Int one) (value.Text other) h = search rules
 value_is (value.Int one) (value.Bool other) h = search rules
@@ -39,12 +39,12 @@ cell_is None (Some other) h = search rules
 cell_is (Some one) None h = search rules
 cell_is (Some one) (Some other) h = ap Some (value_is one other h)
 
-then_first : (o p : Ordering) → ordering_then o p ≡ Equal → o ≡ Equal
+pub then_first : (o p : Ordering) → ordering_then o p ≡ Equal → o ≡ Equal
 then_first Less p h = search rules
 then_first Equal p h = refl
 then_first Greater p h = search rules
 
-then_second : (o p : Ordering) → ordering_then o p ≡ Equal → p ≡ Equal
+pub then_second : (o p : Ordering) → ordering_then o p ≡ Equal → p ≡ Equal
 then_second Less p h = search rules
 then_second Equal p h = h
 then_second Greater p h = search rules
@@ -55,7 +55,7 @@ cells_are [] (cell ∷ other) h = search rules
 cells_are (cell ∷ one) [] h = search rules
 cells_are (cell ∷ one) (next ∷ other) h = ap₂ (λ x xs. x ∷ xs) (cell_is cell next (then_first _ _ h)) (cells_are one other (then_second _ _ h))
 
-is_equal : (o : Ordering) → is_eq o ≡ true → o ≡ Equal
+pub is_equal : (o : Ordering) → is_eq o ≡ true → o ≡ Equal
 is_equal Less h = search rules
 is_equal Equal h = refl
 is_equal Greater h = search rules

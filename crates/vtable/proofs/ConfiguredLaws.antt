@@ -28,6 +28,7 @@ use Rattle.vtable.specs.Passes.{cells_by, table_row, is_in_order, groups_after, 
 use Rattle.vtable.proofs.CellLaws.{same_cells_are}
 use Rattle.vtable.proofs.JoinedLaws.{all_permuted, all_groups_pass, group_passes, groups_from, groups_ascend, all_in_order}
 use Rattle.vtable.proofs.PossibleLaws.{true_or_false, both, and_first, and_second}
+use Rattle.vtable.proofs.PlainLaws.{same_plain}
 use Rattle.vtable.proofs.RowsLaws.{choice_true, choice_false}
 
 pub columns_push : (places : List (Option plain.Column)) (place : Option plain.Column) → columns_of (places ++ place ∷ []) ≡ columns_of places ++ option_to_list place
@@ -213,16 +214,18 @@ present c table columns rows cut sorted answer some columns_are cut_is moved ord
     let sorted_rows : List VRow = map table_row sorted in
     let moved_rows : IsPermutation (map table_row cut) sorted_rows = IsPermutation-map table_row cut sorted moved in
     let full : list_all is_full sorted_rows ≡ true = sym (all_permuted is_full (map table_row cut) sorted_rows moved_rows) ∙ ap (list_all is_full) cut_is ∙ cut_full c table.columns table.rows answer.filled in
+    let same : (values : List Value) → list_any (same_values values) rows ≡ list_any (λ cells. same_values values (values_of (map (column_at c) table.columns) cells)) (here c table.rows) = λ values.
+    let test : List Value → Bool = same_values values in
+    ap (list_any test) rows_are
+    ∙ any_mapped test (groups_after None sorted_rows)
+    ∙ all_groups_any (λ cells. test (some_values cells)) sorted_rows
+    ∙ sym (list_any-IsPermutation (λ (row : VRow). test (some_values row.cells)) (map table_row cut) sorted_rows moved_rows)
+    ∙ ap (list_any (λ (row : VRow). test (some_values row.cells))) cut_is
+    ∙ cut_any c table.columns test table.rows in
     record {
       some = some;
       same_columns = columns_are;
       ascending = ap values_ascend rows_are ∙ groups_values_ascend (groups_after None sorted_rows) (full_groups (groups_after None sorted_rows) (all_groups_pass is_full sorted_rows full)) (all_in_order sorted_rows order);
-      same_rows = λ values.
-          let test : List Value → Bool = same_values values in
-          ap (list_any test) rows_are
-          ∙ any_mapped test (groups_after None sorted_rows)
-          ∙ all_groups_any (λ cells. test (some_values cells)) sorted_rows
-          ∙ sym (list_any-IsPermutation (λ (row : VRow). test (some_values row.cells)) (map table_row cut) sorted_rows moved_rows)
-          ∙ ap (list_any (λ (row : VRow). test (some_values row.cells))) cut_is
-          ∙ cut_any c table.columns test table.rows;
+      same_rows = same;
+      same = same_plain c table columns rows answer.filled columns_are same;
     }

@@ -8,6 +8,7 @@ pub mod JoinLaws
 pub mod JoinedLaws
 pub mod NormalLaws
 pub mod PassLaws
+pub mod PlainLaws
 pub mod PossibleLaws
 pub mod RowsLaws
 pub mod StayingLaws

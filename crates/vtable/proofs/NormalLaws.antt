@@ -84,7 +84,7 @@ standing_of c row_in read old values same (row ∷ rows) has =
 
 -- ---- relations
 
-same_with : (columns : List plain.Column) (one other : List (List Cell)) → ((first : plain.Column) (more : List plain.Column) → columns ≡ first ∷ more → (values : ColName → Option Value) → HasRow one values ↔ HasRow other values) → SameRelation (relation_with columns one) (relation_with columns other)
+pub same_with : (columns : List plain.Column) (one other : List (List Cell)) → ((first : plain.Column) (more : List plain.Column) → columns ≡ first ∷ more → (values : ColName → Option Value) → HasRow one values ↔ HasRow other values) → SameRelation (relation_with columns one) (relation_with columns other)
 same_with [] one other same = record { columns = λ column. (λ h. h, λ h. h); rows = λ values. (λ h. h, λ h. h) }
 same_with (first ∷ more) one other same = record { columns = λ column. (λ h. h, λ h. h); rows = same first more refl }
 

@@ -7,9 +7,9 @@ use Rattle.std.specs.Cmp.Lexicographic.{slice_cmp}
 use Rattle.feature_expr.specs.Satisfaction.{satisfies}
 use Rattle.feature_expr.specs.declared.expr.Expr as e
 use Rattle.feature_expr.specs.declared.value.Value.{Value}
-use Rattle.plain_relation.specs.Relations.{columns_of}
+use Rattle.plain_relation.specs.Relations.{Cell, Relation, SameRelation, columns_of, relation_with}
 use Rattle.plain_relation.specs.Relations as plain
-use Rattle.vtable.specs.Answers.{places_at, rows_at}
+use Rattle.vtable.specs.Answers.{places_at, rows_at, answer_at}
 use Rattle.vtable.specs.TableForm.{value_cmp}
 use Rattle.vtable.specs.Passes.{cells_by}
 use Rattle.vtable.specs.declared.decision.Fate.{Fate}
@@ -41,13 +41,24 @@ values_ascend [] = true
 values_ascend (row ∷ []) = true
 values_ascend (row ∷ next ∷ rows) = is_lt (slice_cmp value_cmp row next) && values_ascend (next ∷ rows)
 
+-- the values of a row under the names of the columns
+abbrev pub cells_of : List plain.Column → List Value → List Cell
+cells_of [] values = []
+cells_of (column ∷ columns) [] = []
+cells_of (column ∷ columns) (value ∷ values) = record { name = column.name; value = value } ∷ cells_of columns values
+
+-- the relation of these columns and rows
+abbrev pub relation_in : List PlainColumn → List (List Value) → Relation
+relation_in columns rows = relation_with (map plain_column columns) (map (cells_of (map plain_column columns)) rows)
+
 -- The columns are those that are there, in their order, and some are. The rows are those that are there, cut to the
--- columns, each once, ascending.
+-- columns, each once, ascending: together the relation that the configured answer is.
 pub record IsPresent (c : List ℕ) (table : VTable) (columns : List PlainColumn) (rows : List (List Value)) : Type 0 where
   pub some : (length columns == 0) ≡ false
   pub same_columns : map plain_column columns ≡ columns_of (places_at c table)
   pub ascending : values_ascend rows ≡ true
   pub same_rows : (values : List Value) → list_any (same_values values) rows ≡ list_any (λ cells. same_values values (values_of (places_at c table) cells)) (rows_at c table)
+  pub same : SameRelation (relation_in columns rows) (answer_at c table)
 
 -- what the table is in the variant: absent exactly where no column is there
 abbrev pub IsConfigured : List ℕ → VTable → Plain → Type 0
