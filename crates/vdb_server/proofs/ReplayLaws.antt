@@ -138,7 +138,15 @@ at_first opening stream now session is over = record {
 
 pub replays_nothing : (opening : Opening) (stream : List ℕ) (now : Option (List ℕ)) → Replays opening stream now now
 replays_nothing opening stream now = record {
-  run = []; is_run = tt; fits = tt; rest = stream; input = refl; sent = []; unsent = []; output = refl; put = Appends-nil now;
+  run = [];
+  is_run = tt;
+  fits = tt;
+  rest = stream;
+  input = refl;
+  sent = [];
+  unsent = [];
+  output = refl;
+  put = Appends-nil now;
 }
 
 -- A session that is closed has ended, or has nothing left to do at the end of its input, and no output waits.

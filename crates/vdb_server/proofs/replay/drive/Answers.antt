@@ -7,25 +7,25 @@ use Rattle.vdb_server.proofs.replay.drive.Goals as goal
 pub returns-then-eq-clause-all : goal.returns-then-eq-clause-all
 returns-then-eq-clause-all g c = λ done.
     closed_all c.args.opening.now c.args.stream.now c.turns.fed (g.O.Sink.held c.args.out.now).bytes (g.O.Sink.held c.turns.out).bytes c.poll-polled.new.self
-      (polled_on c.args.opening.now c.args.stream.now c.turns.fed (g.O.Sink.held c.args.out.now).bytes (g.O.Sink.held c.turns.out).bytes c.turns.session c.poll-polled.new.self c.poll-polled.result c.poll-polled.ensures c.turns.invariant.at)
-      (let closed : c.poll-polled.result ≡ polled.Closed = search rules in subst (λ r. Says r c.poll-polled.new.self) closed c.poll-polled.ensures.says)
+    (polled_on c.args.opening.now c.args.stream.now c.turns.fed (g.O.Sink.held c.args.out.now).bytes (g.O.Sink.held c.turns.out).bytes c.turns.session c.poll-polled.new.self c.poll-polled.result c.poll-polled.ensures c.turns.invariant.at)
+    (let closed : c.poll-polled.result ≡ polled.Closed = search rules in subst (λ r. Says r c.poll-polled.new.self) closed c.poll-polled.ensures.says)
 
 pub returns-then-eq-clause-replays : goal.returns-then-eq-clause-replays
 returns-then-eq-clause-replays g c =
     replays_so_far c.args.opening.now c.args.stream.now c.turns.fed (g.O.Sink.held c.args.out.now).bytes (g.O.Sink.held c.turns.out).bytes c.poll-polled.new.self
-      (polled_on c.args.opening.now c.args.stream.now c.turns.fed (g.O.Sink.held c.args.out.now).bytes (g.O.Sink.held c.turns.out).bytes c.turns.session c.poll-polled.new.self c.poll-polled.result c.poll-polled.ensures c.turns.invariant.at)
+    (polled_on c.args.opening.now c.args.stream.now c.turns.fed (g.O.Sink.held c.args.out.now).bytes (g.O.Sink.held c.turns.out).bytes c.turns.session c.poll-polled.new.self c.poll-polled.result c.poll-polled.ensures c.turns.invariant.at)
 
 pub returns-in-None-clause-replays : goal.returns-in-None-clause-replays
 returns-in-None-clause-replays g c =
     c.in-None.ensures.stops.on c.args.opening.now (g.O.Sink.held c.args.out.now).bytes
-      (polled_on c.args.opening.now c.args.stream.now c.turns.fed (g.O.Sink.held c.args.out.now).bytes (g.O.Sink.held c.turns.out).bytes c.turns.session c.poll-polled.new.self c.poll-polled.result c.poll-polled.ensures c.turns.invariant.at)
+    (polled_on c.args.opening.now c.args.stream.now c.turns.fed (g.O.Sink.held c.args.out.now).bytes (g.O.Sink.held c.turns.out).bytes c.turns.session c.poll-polled.new.self c.poll-polled.result c.poll-polled.ensures c.turns.invariant.at)
 
 pub turns-preserved : goal.turns-preserved
 turns-preserved g c = record {
   later = le_trans c.turns.invariant.later c.follow.ensures.later;
   within = c.in-Some.ensures.within;
   at = c.in-Some.ensures.on.on c.args.opening.now (g.O.Sink.held c.args.out.now).bytes
-    (polled_on c.args.opening.now c.args.stream.now c.turns.fed (g.O.Sink.held c.args.out.now).bytes (g.O.Sink.held c.turns.out).bytes c.turns.session c.poll-polled.new.self c.poll-polled.result c.poll-polled.ensures c.turns.invariant.at);
+      (polled_on c.args.opening.now c.args.stream.now c.turns.fed (g.O.Sink.held c.args.out.now).bytes (g.O.Sink.held c.turns.out).bytes c.turns.session c.poll-polled.new.self c.poll-polled.result c.poll-polled.ensures c.turns.invariant.at);
 }
 
 pub returns-clause-replays : goal.returns-clause-replays

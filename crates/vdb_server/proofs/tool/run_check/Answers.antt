@@ -7,5 +7,5 @@ returns-then-put_all-clause-ends g c = record {
   catalog = c.in-Ok.opening.catalog;
   rows = c.in-Ok.opening.rows;
   checked = c.in-Ok.ensures.checked;
-  put = rw (c.as_slice.ensures.value, c.in-Ok-line_of_passed.ensures) at c.if-put_all.ensures.0;
+  put = rw (c.as_slice.ensures.value, c.in-Ok-line_of_passed.ensures) at c.if-put_all.ensures.put.0;
 }
