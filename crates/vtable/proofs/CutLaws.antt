@@ -93,10 +93,10 @@ staying_are_distinct model (column ∷ columns) h =
 pub column_there : (c : List ℕ) (column : VColumn) → satisfies c column.cond ≡ true → column_at c column ≡ Some (record { name = column.name; kind = column.kind })
 column_there c column holds = choice_true _ _ _ holds
 
-column_away : (c : List ℕ) (column : VColumn) → satisfies c column.cond ≡ false → column_at c column ≡ None
+pub column_away : (c : List ℕ) (column : VColumn) → satisfies c column.cond ≡ false → column_at c column ≡ None
 column_away c column fails = choice_false _ _ _ fails
 
-settled_at : (model : Expr) (c : List ℕ) → IsAdmitted model c → (column : VColumn) → column_at c (settled_column model column) ≡ column_at c column
+pub settled_at : (model : Expr) (c : List ℕ) → IsAdmitted model c → (column : VColumn) → column_at c (settled_column model column) ≡ column_at c column
 settled_at model c admitted column = ap (λ (b : Bool). if b then Some (record { name = column.name; kind = column.kind }) else None) (settled_holds model column.cond c admitted)
 
 with_place : (place : Option plain.Column) (one other : List (Option plain.Column)) → columns_of one ≡ columns_of other → columns_of (place ∷ one) ≡ columns_of (place ∷ other)
@@ -146,7 +146,7 @@ cut_is model cond (column ∷ columns) (cell ∷ cells) =
           ∙ sym (cut_goes model cond column columns cell cells never)
     ]
 
-both_hold : (model cond column : Expr) (c : List ℕ) → IsAdmitted model c → satisfies c cond ≡ true → satisfies c column ≡ true → can_meet model cond column ≡ true
+pub both_hold : (model cond column : Expr) (c : List ℕ) → IsAdmitted model c → satisfies c cond ≡ true → satisfies c column ≡ true → can_meet model cond column ≡ true
 both_hold model cond column c admitted row_here column_here = some_admitted_of model (λ d. satisfies d cond && satisfies d column) c admitted (both (satisfies c cond) (satisfies c column) row_here column_here)
 
 row_of_nil : (places : List (Option plain.Column)) → row_of places [] ≡ []

@@ -1,3 +1,4 @@
+pub mod AnswerLaws
 pub mod CellLaws
 pub mod ConfiguredLaws
 pub mod CutLaws
