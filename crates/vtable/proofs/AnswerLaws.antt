@@ -1,6 +1,6 @@
 -- A table in table form is a well-formed answer, as the table was.
-use Rattle.std.proofs.Common.{◌≡◌, ℕ, suc, ◌+◌, ◌<◌, ◌≤◌, ◌==◌, ◌&&◌, ◌||◌, Bool, true, false, not, if◌then◌else◌, List, [], ◌∷◌, ◌++◌, length, map, Option, Some, None, refl, sym, ◌∙◌, ap, ap₂, subst, rules, arith, ◌⊎◌, inl, inr}
-use Rattle.std.specs.List.{list_any, list_all, filter}
+use Rattle.std.proofs.Common.{◌≡◌, ℕ, suc, ◌==◌, ◌&&◌, Bool, true, false, if◌then◌else◌, List, [], ◌∷◌, length, map, Option, Some, None, refl, sym, ◌∙◌, ap, ap₂, subst, rules, arith, ◌⊎◌, inl, inr}
+use Rattle.std.specs.List.{list_all, filter}
 use Rattle.std.specs.Prelude.{is_some}
 use Rattle.std.proofs.Math.Bool.{beq}
 use Rattle.std.proofs.lemmas.Bool.Decides.{nat_tests}
@@ -16,10 +16,10 @@ use Rattle.vtable.specs.declared.table.VRow.{VRow}
 use Rattle.vtable.specs.declared.table.VTable.{VTable}
 use Rattle.vtable.specs.Answers.{column_at, fits, same_kind, names_are_distinct, is_whole, IsAnswerAt}
 use Rattle.vtable.specs.Possible.{can_hold, can_meet}
-use Rattle.vtable.specs.TableForm.{same_cells, stands, has_cell, is_settled, cells_stand, is_row_formed, settled_column, columns_staying, cut_cells, cut_row}
+use Rattle.vtable.specs.TableForm.{same_cells, stands, has_cell, is_settled, cells_stand, is_row_formed, columns_staying, cut_cells, cut_row}
 use Rattle.vtable.proofs.CellLaws.{same_cells_are, same_cells_self}
-use Rattle.vtable.proofs.CutLaws.{one_stays, one_goes, cut_stays, cut_goes, settled_at, column_there, column_away, both_hold, same_columns, fits_rest}
-use Rattle.vtable.proofs.PossibleLaws.{true_or_false, both, and_first, and_second, or_left, or_right, or_cases, some_admitted_of, each_fails}
+use Rattle.vtable.proofs.CutLaws.{one_stays, one_goes, cut_stays, cut_goes, settled_at, column_away, both_hold, same_columns, fits_rest}
+use Rattle.vtable.proofs.PossibleLaws.{true_or_false, both, and_first, and_second, or_left, or_right, or_cases}
 use Rattle.vtable.proofs.RowsLaws.{choice_true, choice_false}
 use Rattle.vtable.proofs.StayingLaws.{is_filled, filled_here}
 
