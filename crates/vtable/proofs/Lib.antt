@@ -3,9 +3,11 @@ pub mod CellLaws
 pub mod ConfiguredLaws
 pub mod CutLaws
 pub mod DisjunctionLaws
+pub mod EmptyLaws
 pub mod GroupLaws
 pub mod JoinLaws
 pub mod JoinedLaws
+pub mod NormalAnswerLaws
 pub mod NormalLaws
 pub mod PassLaws
 pub mod PlainLaws

@@ -1,7 +1,7 @@
 //! Tables worked out by hand, as the lists of their columns and rows.
 use crate::configured::made_plain;
 use crate::out_table::made_normal;
-use crate::{Plain, VColumn, VRow, VTable};
+use crate::{Plain, VColumn, VRow, VTable, configure, normal};
 use condition_sat::Model;
 use feature_expr::{
     ColName, Config, Expr, Features, Kind, List, Memory, Name, Text, TryCopy, Value, parse_expr,
@@ -343,5 +343,16 @@ fn is_what_the_variant_has(rt: HostRuntime) -> Result<(), Fail> {
             assert_eq!(rt; text.as_str(), *wanted);
         }
     }
+    Ok(())
+}
+
+#[test]
+fn nothing_stays_nothing(rt: HostRuntime) -> Result<(), Fail> {
+    let model = Model::new(rt.alloc(), Expr::True)?;
+    let out = normal(rt.alloc(), &model, VTable::empty(rt.alloc()))?;
+    assert!(rt; out.table().columns.is_empty() && out.table().rows.is_empty());
+    let plain = configure(rt.alloc(), &VTable::empty(rt.alloc()), &Config::none())?;
+    let text = shown(rt.alloc(), &plain)?;
+    assert_eq!(rt; text.as_str(), "absent");
     Ok(())
 }

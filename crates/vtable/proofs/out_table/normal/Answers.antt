@@ -1,4 +1,4 @@
-use Rattle.vtable.proofs.AnswerLaws.{normal_answers}
+use Rattle.vtable.proofs.NormalAnswerLaws.{normal_answers}
 use Rattle.vtable.proofs.out_table.normal.Goals as goal
 
 pub returns-clause-normal : goal.returns-clause-normal
