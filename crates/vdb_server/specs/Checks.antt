@@ -3,7 +3,7 @@ use Rattle.std.specs.Prelude.{◌≡◌, ℕ, ◌≤◌, List, length}
 use Rattle.std.specs.Io.KnownBytes.{Appends}
 use Rattle.causes.specs.Faults.{Rose}
 use Rattle.causes.specs.Told.{IsContent}
-use Rattle.vschema.specs.Spelling.{IsCatalogue}
+use Rattle.vschema.specs.Files.{IsCatalogue}
 use Rattle.vschema.specs.declared.catalog.Catalog.{Catalog}
 use Rattle.vschema.specs.declared.catalog.OpeningRow.{OpeningRow}
 use Rattle.vra_types.specs.Check as check

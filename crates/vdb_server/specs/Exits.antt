@@ -6,7 +6,7 @@ use Rattle.causes.specs.Told.{IsContent}
 use Rattle.vschema.specs.Refusals.{Refuses}
 use Rattle.vschema.specs.declared.refused.CatalogRefused.{CatalogRefused}
 use Rattle.vschema.specs.declared.refused.CatalogRefused.TheVariants as refused
-use Rattle.vschema.specs.Spelling.{IsCatalogue}
+use Rattle.vschema.specs.Files.{IsCatalogue}
 use Rattle.vschema.specs.declared.catalog.Catalog.{Catalog}
 use Rattle.vschema.specs.declared.catalog.OpeningRow.{OpeningRow}
 use Rattle.vra_types.specs.Check as check

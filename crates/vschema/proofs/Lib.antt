@@ -1,4 +1,7 @@
+pub mod AnswerLaws
 pub mod EntryLaws
+pub mod FormedLaws
+pub mod GrammarLaws
 pub mod HeadLaws
-pub mod RefusalLaws
 pub mod TableLaws
+pub mod ViableLaws

@@ -1,4 +1,6 @@
+pub mod CatalogueGrammar
 pub mod Faults
+pub mod Files
 pub mod Formed
 pub mod Gaps
 pub mod Refusals

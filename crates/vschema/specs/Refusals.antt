@@ -5,6 +5,7 @@ use Rattle.std.specs.Str.Lossy.{utf8_valid_len}
 use Rattle.feature_expr.specs.Tokens.{AreTokens}
 use Rattle.feature_expr.specs.declared.token.Token.{Token}
 use Rattle.vschema.specs.Words.{line_number}
+use Rattle.vschema.specs.CatalogueGrammar.{IsViableFault}
 use Rattle.vschema.specs.Faults.{CatalogueFault}
 use Rattle.vschema.specs.declared.fault.CatalogFault.{CatalogFault}
 use Rattle.vschema.specs.declared.fault.CatalogFault.TheVariants as fault
@@ -21,13 +22,15 @@ refused_at text tokens (fault.WrongKind at) = refused.WrongKind (line_number tex
 refused_at text tokens (fault.Limit at which) = refused.Limit (line_number text tokens at) which
 refused_at text tokens fault.Memory = refused.Memory
 
--- The bytes are text, and this is the first fault among its tokens, with its line.
+-- The bytes are text, and this is the first fault among its tokens, with its line: what stands before it was read, a
+-- syntax fault stands at the first token with which no catalogue goes on, and each other at one that could stand there.
 pub record IsRefused (why : CatalogRefused) (bytes : List ℕ) : Type 0 where
   pub is_text : IsUtf8 bytes
   pub tokens : List Token
   pub are_tokens : AreTokens bytes tokens
   pub fault : CatalogFault
   pub is_fault : CatalogueFault bytes tokens fault
+  pub viable : IsViableFault bytes tokens fault
   pub placed : why ≡ refused_at bytes tokens fault
 
 -- what each refusal says: the bytes aren't text, from this one on, or they have that first fault; want of memory says

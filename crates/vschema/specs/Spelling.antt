@@ -1,10 +1,9 @@
 -- What the tokens of a catalogue's file spell, part by part. A place is the number of a token. Each part says where it
 -- ends, and that nothing in it stood before it that may not stand twice.
 use Rattle.std.specs.Prelude.{Bool, true, false, ◌≡◌, ℕ, ◌+◌, ◌<◌, List, [], ◌∷◌, ◌++◌, length, map, Option, Some, None, position, set, slice_get, is_some}
-use Rattle.std.specs.Str.{IsUtf8, bytes_eq}
+use Rattle.std.specs.Str.{bytes_eq}
 use Rattle.feature_expr.specs.Names.{among}
 use Rattle.feature_expr.specs.Value.{kind_of}
-use Rattle.feature_expr.specs.Tokens.{AreTokens}
 use Rattle.feature_expr.specs.ExprGrammar.{Disjunction, IsRead, Spells}
 use Rattle.feature_expr.specs.declared.config.TheConstants.{FEATURE_LIMIT}
 use Rattle.feature_expr.specs.declared.expr.Expr.{Expr}
@@ -206,10 +205,3 @@ pub record SpellCatalogue (text : List ℕ) (tokens : List Token) (catalog : Cat
   pub entries : ℕ
   pub model : IsModel catalog.features text tokens body catalog.model entries
   pub all_entries : EntriesTo catalog.features text tokens entries catalog.tables rows (length tokens)
-
--- a file's bytes are this catalogue with these opening rows
-pub record IsCatalogue (bytes : List ℕ) (catalog : Catalog) (rows : List OpeningRow) : Type 0 where
-  pub is_text : IsUtf8 bytes
-  pub tokens : List Token
-  pub are_tokens : AreTokens bytes tokens
-  pub spelled : SpellCatalogue bytes tokens catalog rows

@@ -1,7 +1,8 @@
 ghost use Rattle.std.specs.Prelude.{◌≡◌, ◌≤◌, [], length, IfOk, IfErr};
 ghost use Rattle.feature_expr.specs.Tokens.{AreTokens};
 ghost use Rattle.vschema.specs.Words.{line_number};
-ghost use Rattle.vschema.specs.Spelling.{IsCatalogue, SpellCatalogue};
+ghost use Rattle.vschema.specs.Spelling.{SpellCatalogue};
+ghost use Rattle.vschema.specs.Files.{IsCatalogue};
 ghost use Rattle.vschema.specs.Faults.{CatalogueFault};
 ghost use Rattle.vschema.specs.Formed.{IsFormed};
 ghost use Rattle.vschema.specs.Refusals.{Refuses, refused_at};
@@ -27,6 +28,7 @@ pub fn parse_catalog(
     bytes: &[u8],
 ) -> Result<(Catalog, List<OpeningRow>), CatalogRefused>
     ensures spelled { IfOk result (λ found. IsCatalogue bytes.now found.0 found.1) }
+    ensures formed { IfOk result (λ found. IsFormed found.0 found.1) }
     ensures refused { IfErr result (λ why. Refuses why bytes.now) }
 {
     match str::from_utf8(bytes) {
@@ -35,9 +37,10 @@ pub fn parse_catalog(
     }
 }
 
-#[tactic(auto, using(crate::proofs::RefusalLaws::refused_text))]
+#[tactic(auto, using(crate::proofs::AnswerLaws::refused_text, crate::proofs::AnswerLaws::is_catalogue))]
 fn parse_text(alloc: Global, text: &str) -> Result<(Catalog, List<OpeningRow>), CatalogRefused>
     ensures spelled { IfOk result (λ found. IsCatalogue text.now found.0 found.1) }
+    ensures formed { IfOk result (λ found. IsFormed found.0 found.1) }
     ensures refused { IfErr result (λ why. Refuses why text.now) }
 {
     let tokens = tokens(alloc, text)?;

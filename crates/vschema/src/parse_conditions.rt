@@ -55,11 +55,12 @@ pub fn parse_when(
     ensures spelled { IfOk result (λ found. IsWhen reading.now.features.now reading.now.text.now reading.now.tokens.now nesting at found.0 found.1) }
     ensures refused { IfErr result (WhenFault reading.now.features.now reading.now.text.now reading.now.tokens.now nesting at) }
 {
-    if !stands(reading, at, Sign::When) {
-        return Ok((Expr::True, at));
+    if stands(reading, at, Sign::When) {
+        let (cond, end) = parse_expression(reading, nesting, at + 1)?;
+        Ok((cond, end))
+    } else {
+        Ok((Expr::True, at))
     }
-    let (cond, end) = parse_expression(reading, nesting, at + 1)?;
-    Ok((cond, end))
 }
 
 /// The condition behind the brackets of a table or a row, and the token behind their semicolon.

@@ -393,7 +393,14 @@ fn keeps_the_limits(rt: HostRuntime) -> Result<(), Fail> {
     for (head, piece, between, count, tail, why) in LIMITS {
         let text = repeated(rt.alloc(), head, piece, between, count, tail)?;
         assert!(rt; read(rt.alloc(), text.as_str()).is_ok());
-        let text = repeated(rt.alloc(), head, piece, between, count + 1, tail)?;
+        let text = repeated(
+            rt.alloc(),
+            head,
+            piece,
+            between,
+            count.saturating_add(1),
+            tail,
+        )?;
         assert_eq!(rt; read(rt.alloc(), text.as_str()).err(), Some(why));
     }
     Ok(())
@@ -425,8 +432,8 @@ fn keeps_the_limit_on_nesting(rt: HostRuntime) -> Result<(), Fail> {
     for (head, count, tail) in NESTED {
         let text = nested(rt.alloc(), head, count, tail)?;
         assert!(rt; read(rt.alloc(), text.as_str()).is_ok());
-        let text = nested(rt.alloc(), head, count + 1, tail)?;
-        let why = CatalogRefused::Syntax(count as u64 + 1);
+        let text = nested(rt.alloc(), head, count.saturating_add(1), tail)?;
+        let why = CatalogRefused::Syntax((count as u64).saturating_add(1));
         assert_eq!(rt; read(rt.alloc(), text.as_str()).err(), Some(why));
     }
     Ok(())
