@@ -7,7 +7,6 @@ pub mod EmptyLaws
 pub mod GroupLaws
 pub mod JoinLaws
 pub mod JoinedLaws
-pub mod NormalAnswerLaws
 pub mod NormalLaws
 pub mod PassLaws
 pub mod PlainLaws
