@@ -1,5 +1,5 @@
 -- What was read of a body is the answer on its packet.
-use Rattle.std.proofs.Common.{◌≡◌, ℕ, false, List, take, drop, Result, Ok, Err, refl, ap, subst}
+use Rattle.std.proofs.Common.{◌≡◌, ℕ, Bool, true, false, List, take, drop, Result, Ok, Err, refl, ap, subst}
 use Rattle.pg_messages.specs.declared.decoded.Decoded.{Decoded}
 use Rattle.pg_messages.specs.declared.decoded.Decoded.TheVariants as decoded
 use Rattle.pg_messages.specs.declared.fields.Fault.{Fault}
@@ -7,7 +7,7 @@ use Rattle.pg_messages.specs.declared.fields.Fault.TheVariants as fault
 use Rattle.pg_messages.specs.Fields.{Gives}
 use Rattle.pg_messages.specs.declared.packet.Head.{Head}
 use Rattle.pg_messages.specs.declared.packet.Head.TheVariants as head
-use Rattle.pg_messages.specs.Packet.{Answers, IfWhole, decoded_as, decoded_from, packet_of, is_more, is_more_head}
+use Rattle.pg_messages.specs.Packet.{Answers, IfWhole, IfMemory, TakesMemory, decoded_as, decoded_from, packet_of, is_more, is_more_head}
 
 pub answers_decoded : {T : Type 0} (n : ℕ) (result : Result T Fault) (read : Result T ℕ) → Gives (λ x. x) result read → Answers (decoded_from n result) (decoded_as n read)
 answers_decoded n (Ok x) read h = ap (decoded_as n) h
@@ -31,3 +31,14 @@ whole_from P decoded.Memory read h found = tt
 
 pub answers_same : {T : Type 0} (result read expected : Decoded T) → Answers result read → read ≡ expected → Answers result expected
 answers_same result read expected h e = subst (Answers result) e h
+
+-- where a body takes memory, so may its packet
+pub memory_decoded : {T : Type 0} (n : ℕ) (result : Result T Fault) (takes : Bool) → TakesMemory result takes → IfMemory (decoded_from n result) (takes ≡ true)
+memory_decoded n (Ok x) takes h = tt
+memory_decoded n (Err (fault.Before left)) takes h = tt
+memory_decoded n (Err fault.Memory) takes h = h
+
+pub takes_any : {T : Type 0} (result : Result T Fault) → TakesMemory result true
+takes_any (Ok x) = tt
+takes_any (Err (fault.Before left)) = tt
+takes_any (Err fault.Memory) = refl

@@ -1,5 +1,5 @@
 -- How a frontend message is read.
-use Rattle.std.specs.Prelude.{ℕ, ◌==◌, List, [], ◌∷◌, Option, Some, None, Result, Ok, if◌then◌else◌}
+use Rattle.std.specs.Prelude.{ℕ, ◌==◌, Bool, true, false, List, [], ◌∷◌, Option, Some, None, Result, Ok, if◌then◌else◌}
 use Rattle.pg_messages.specs.declared.decoded.Decoded.{Decoded}
 use Rattle.pg_messages.specs.declared.front.Front.{Front}
 use Rattle.pg_messages.specs.declared.front.Front.TheVariants as front
@@ -18,6 +18,17 @@ front_kind byte = if byte == 81 then Some kinds.Query else if byte == 88 then So
 unfoldable pub front_head : List ℕ → Head FrontKind
 front_head [] = head.More
 front_head (byte ∷ rest) = message_head FRONT_LIMIT (front_kind byte) rest
+
+-- a Query alone takes memory
+abbrev pub takes_memory : FrontKind → Bool
+takes_memory kinds.Query = true
+takes_memory kinds.Terminate = false
+
+-- whether a Query is all there
+abbrev pub is_query : Head FrontKind → Bool
+is_query head.More = false
+is_query (head.Bad place cause) = false
+is_query (head.Packet kind n) = takes_memory kind
 
 unfoldable pub front_fields : FrontKind → List ℕ → Result (Front × List ℕ) ℕ
 front_fields kinds.Query body = do

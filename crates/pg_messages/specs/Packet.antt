@@ -30,6 +30,12 @@ IfMemory decoded.More shown = Unit {0}
 IfMemory (decoded.Bad place cause) shown = Unit {0}
 IfMemory decoded.Memory shown = shown
 
+-- Memory runs out in a body only where it is one that takes memory.
+abbrev pub TakesMemory : {T : Type 0} → Result T Fault → Bool → Type 0
+TakesMemory (Ok x) takes = Unit {0}
+TakesMemory (Err (fault.Before left)) takes = Unit {0}
+TakesMemory (Err fault.Memory) takes = takes ≡ true
+
 -- the number of bytes of a packet that is all there
 abbrev pub length_of : {K : Type 0} → Head K → Option ℕ
 length_of head.More = None

@@ -1,5 +1,5 @@
 -- How a start-up packet is read.
-use Rattle.std.specs.Prelude.{ℕ, ◌==◌, Bool, true, ◌||◌, not, List, length, take, drop, Option, Some, None, Result, Ok, Err, nat_le, nat_lt, if◌then◌else◌}
+use Rattle.std.specs.Prelude.{ℕ, ◌==◌, Bool, true, false, ◌||◌, not, List, length, take, drop, Option, Some, None, Result, Ok, Err, nat_le, nat_lt, if◌then◌else◌}
 use Rattle.std.specs.Int.{w32, from_be_bytes}
 use Rattle.pg_messages.specs.declared.decoded.Decoded.{Decoded}
 use Rattle.pg_messages.specs.declared.decoded.Why.TheVariants as why
@@ -33,6 +33,17 @@ sized_head size rest bytes =
 unfoldable pub startup_head : List ℕ → Head StartupKind
 startup_head bytes =
     if nat_lt (length bytes) 4 then head.More else sized_head (from_be_bytes w32 (take 4 bytes)) (drop 4 bytes) bytes
+
+-- a StartupMessage alone takes memory
+abbrev pub takes_memory : StartupKind → Bool
+takes_memory kinds.Start = true
+takes_memory (kinds.Other code) = false
+
+-- whether a StartupMessage is all there
+abbrev pub is_start : Head StartupKind → Bool
+is_start head.More = false
+is_start (head.Bad place cause) = false
+is_start (head.Packet kind n) = takes_memory kind
 
 -- the pair with this name, whose string begins the bytes and is followed by these
 abbrev pub named_pair : List ℕ → List ℕ → List ℕ → Result (Option Pair × List ℕ) ℕ

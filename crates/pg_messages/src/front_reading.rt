@@ -1,8 +1,8 @@
 ghost use Rattle.std.specs.Prelude.{◌≡◌, ℕ, ◌≤◌, true, List, ◌++◌, length, take, not, is_some, IfSome};
 ghost use Rattle.pg_messages.specs.declared.front.Front.{Front};
 ghost use Rattle.pg_messages.specs.Fields.{Gives};
-ghost use Rattle.pg_messages.specs.Packet.{Answers, IfWhole, IfMemory, IsWithin, is_more, length_of};
-ghost use Rattle.pg_messages.specs.FrontReading.{front_kind, front_head, front_fields, front_body, front_of};
+ghost use Rattle.pg_messages.specs.Packet.{Answers, IfWhole, IfMemory, IsWithin, TakesMemory, is_more, length_of};
+ghost use Rattle.pg_messages.specs.FrontReading.{front_kind, front_head, front_fields, front_body, front_of, is_query, takes_memory};
 ghost use Rattle.pg_messages.specs.FrontSpelling.{IsFront};
 
 use crate::decoded::Decoded;
@@ -20,16 +20,18 @@ pub fn decode_front(alloc: Global, bytes: &[u8]) -> Decoded<Front>
     ensures read { (m : Front) (packet rest : List ℕ) → IsFront m packet → bytes.now ≡ packet ++ rest → Answers result (Decoded.Whole m (length packet)) }
     // Where no message is read: its faults in their order, and their places.
     ensures exact { Answers result (front_of bytes.now) }
-    // Memory is taken for a packet that is all there.
+    // Memory is taken for a Query that is all there.
     ensures memory { IfMemory result (is_some (length_of (front_head bytes.now)) ≡ true) }
+    ensures kind { IfMemory result (is_query (front_head bytes.now) ≡ true) }
 {
     front_at(alloc, bytes)
 }
 
-#[tactic(auto, unfolding(crate::specs::FrontReading::front_of), using(crate::proofs::Packets::answers_decoded))]
+#[tactic(auto, unfolding(crate::specs::FrontReading::front_of), using(crate::proofs::Packets::answers_decoded, crate::proofs::Packets::memory_decoded))]
 fn front_at(alloc: Global, bytes: &[u8]) -> Decoded<Front>
     ensures exact { Answers result (front_of bytes.now) }
     ensures memory { IfMemory result (is_some (length_of (front_head bytes.now)) ≡ true) }
+    ensures kind { IfMemory result (is_query (front_head bytes.now) ≡ true) }
 {
     match read_front_head(bytes) {
         Head::More => Decoded::More,
@@ -85,7 +87,8 @@ fn kind_of(byte: u8) -> Option<FrontKind>
 
 #[tactic(auto, unfolding(crate::specs::FrontReading::front_body))]
 fn read_front(alloc: Global, kind: FrontKind, body: &[u8]) -> Result<Front, Fault>
-    ensures { Gives (λ front. front) result (front_body kind body.now) }
+    ensures exact { Gives (λ front. front) result (front_body kind body.now) }
+    ensures memory { TakesMemory result (takes_memory kind) }
 {
     let (front, rest) = read_front_fields(alloc, kind, body)?;
     if !rest.is_empty() {
@@ -94,9 +97,10 @@ fn read_front(alloc: Global, kind: FrontKind, body: &[u8]) -> Result<Front, Faul
     Ok(front)
 }
 
-#[tactic(auto, unfolding(crate::specs::FrontReading::front_fields))]
+#[tactic(auto, unfolding(crate::specs::FrontReading::front_fields), using(crate::proofs::Packets::takes_any))]
 fn read_front_fields(alloc: Global, kind: FrontKind, body: &[u8]) -> Result<(Front, &[u8]), Fault>
-    ensures { Gives (λ x. (x.0, x.1.now)) result (front_fields kind body.now) }
+    ensures exact { Gives (λ x. (x.0, x.1.now)) result (front_fields kind body.now) }
+    ensures memory { TakesMemory result (takes_memory kind) }
 {
     match kind {
         FrontKind::Query => {

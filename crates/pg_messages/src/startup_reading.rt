@@ -1,8 +1,8 @@
 ghost use Rattle.std.specs.Prelude.{◌≡◌, ℕ, ◌≤◌, true, List, ◌++◌, length, take, not, is_some, IfSome};
 ghost use Rattle.pg_messages.specs.declared.startup.Startup.{Startup};
 ghost use Rattle.pg_messages.specs.Fields.{Gives, until_end};
-ghost use Rattle.pg_messages.specs.Packet.{Answers, IfWhole, IfMemory, IsWithin, is_more, length_of};
-ghost use Rattle.pg_messages.specs.StartupReading.{startup_kind, has_length, coded_head, startup_head, next_pair, startup_fields, startup_of};
+ghost use Rattle.pg_messages.specs.Packet.{Answers, IfWhole, IfMemory, IsWithin, TakesMemory, is_more, length_of};
+ghost use Rattle.pg_messages.specs.StartupReading.{startup_kind, has_length, coded_head, startup_head, next_pair, startup_fields, startup_of, is_start, takes_memory};
 ghost use Rattle.pg_messages.specs.StartupSpelling.{IsStartup};
 
 use crate::decoded::{Decoded, Why};
@@ -24,16 +24,18 @@ pub fn decode_startup(alloc: Global, bytes: &[u8]) -> Decoded<Startup>
     ensures read { (m : Startup) (packet rest : List ℕ) → IsStartup m packet → bytes.now ≡ packet ++ rest → Answers result (Decoded.Whole m (length packet)) }
     // Where no packet is read: its faults in their order, and their places.
     ensures exact { Answers result (startup_of bytes.now) }
-    // Memory is taken for a packet that is all there.
+    // Memory is taken for a StartupMessage that is all there.
     ensures memory { IfMemory result (is_some (length_of (startup_head bytes.now)) ≡ true) }
+    ensures kind { IfMemory result (is_start (startup_head bytes.now) ≡ true) }
 {
     startup_at(alloc, bytes)
 }
 
-#[tactic(auto, unfolding(crate::specs::StartupReading::startup_of), using(crate::proofs::Packets::answers_decoded))]
+#[tactic(auto, unfolding(crate::specs::StartupReading::startup_of), using(crate::proofs::Packets::answers_decoded, crate::proofs::Packets::memory_decoded))]
 fn startup_at(alloc: Global, bytes: &[u8]) -> Decoded<Startup>
     ensures exact { Answers result (startup_of bytes.now) }
     ensures memory { IfMemory result (is_some (length_of (startup_head bytes.now)) ≡ true) }
+    ensures kind { IfMemory result (is_start (startup_head bytes.now) ≡ true) }
 {
     match read_startup_head(bytes) {
         Head::More => Decoded::More,
@@ -121,9 +123,10 @@ fn may_have_length(kind: StartupKind, size: u32) -> bool
     }
 }
 
-#[tactic(auto, unfolding(crate::specs::StartupReading::startup_fields))]
+#[tactic(auto, unfolding(crate::specs::StartupReading::startup_fields), using(crate::proofs::Packets::takes_any))]
 fn read_startup(alloc: Global, kind: StartupKind, body: &[u8]) -> Result<Startup, Fault>
-    ensures { Gives (λ startup. startup) result (startup_fields kind body.now) }
+    ensures exact { Gives (λ startup. startup) result (startup_fields kind body.now) }
+    ensures memory { TakesMemory result (takes_memory kind) }
 {
     match kind {
         StartupKind::Start => {

@@ -1,9 +1,9 @@
 -- A step of the session machine, by what its rule left.
 use Rattle.std.proofs.Common.{◌≡◌, ◌∙◌, ℕ, ◌≤◌, Bool, true, false, not, List, [], ◌∷◌, ◌++◌, length, take, drop, Option, Some, None, is_some, refl, sym, ap, subst, take-append-drop, take_all, length-take-le, le_of_eq, arith}
-use Rattle.pg_messages.specs.FrontReading.{front_head, front_of}
+use Rattle.pg_messages.specs.FrontReading.{front_head, front_of, is_query}
 use Rattle.pg_messages.specs.FrontSpelling.{IsFront}
 use Rattle.pg_messages.specs.Packet.{length_of, is_more}
-use Rattle.pg_messages.specs.StartupReading.{startup_head, startup_of}
+use Rattle.pg_messages.specs.StartupReading.{startup_head, startup_of, is_start}
 use Rattle.pg_messages.specs.StartupSpelling.{IsStartup}
 use Rattle.pg_messages.specs.declared.back.Back.{Back}
 use Rattle.pg_messages.specs.declared.decoded.Decoded.TheVariants as decoded
@@ -15,7 +15,7 @@ use Rattle.session_poll.specs.declared.session.Session.{Session}
 use Rattle.session_poll.specs.declared.state.Phase.{Phase}
 use Rattle.session_poll.specs.declared.state.Phase.TheVariants as phases
 use Rattle.session_poll.specs.Courses.{Course, Input, StartUp, Message, Bad, Unread, Next}
-use Rattle.session_poll.specs.Packets.{is_bad, IsStartupCut, IsFrontCut, Eats}
+use Rattle.session_poll.specs.Packets.{is_bad, IsStartupCut, IsFrontCut, IsReadAs}
 use Rattle.session_poll.specs.Parts.{Keeps, Same, Drops, Skips, Takes, Moved, Idles}
 use Rattle.session_poll.specs.Queries.{RunsOut, EndsQuery}
 use Rattle.session_poll.specs.Replies.{spelled}
@@ -27,11 +27,11 @@ use Rattle.session_poll.specs.State.{State}
 use Rattle.session_poll.specs.Steps.{Handles, Refuses, Step}
 
 -- the packet was dropped from what was held, and then its rule was followed
-moved_by : (opening : Opening) (old mid new : Session) (phase : Phase) (input : Input) (rule : State → Course → Type 0) (count : ℕ) → old.phase ≡ phase → ((s : State) (c : Course) → rule s c → Step opening phase input s c) → Drops count old mid → Takes rule mid new → Eats phase input (take count (held_of old)) → Moved opening old new
-moved_by opening old mid new phase input rule count is follows d t eats = record {
+moved_by : (opening : Opening) (old mid new : Session) (phase : Phase) (input : Input) (rule : State → Course → Type 0) (count : ℕ) → old.phase ≡ phase → ((s : State) (c : Course) → rule s c → Step opening phase input s c) → Drops count old mid → Takes rule mid new → IsReadAs phase input (take count (held_of old)) → Moved opening old new
+moved_by opening old mid new phase input rule count is follows d t read_as = record {
   did = record { input = input; bytes = take count (held_of old); course = t.course };
   step = subst (λ p. Step opening p input (state_of old) t.course) (sym is) (follows (state_of old) t.course (subst (λ s. rule s t.course) d.state t.rule_is));
-  eats = subst (λ p. Eats p input (take count (held_of old))) (sym is) eats;
+  read_as = subst (λ p. IsReadAs p input (take count (held_of old))) (sym is) read_as;
   held = sym (ap (λ (h : List ℕ). take count (held_of old) ++ h) (t.keeps.held ∙ d.held) ∙ take-append-drop count (held_of old));
   state = t.state;
   put = t.put ∙ ap (λ o. o.bytes ++ spelled t.course.replies) d.output;
@@ -60,40 +60,42 @@ message_bad opening old mid new place cause is bad d t =
 cut_length : (count : ℕ) (held : List ℕ) → count ≤ length held → count ≡ length (take count held)
 cut_length count held within = sym (length-take-le count held within)
 
-startup_cut : (count : ℕ) (held : List ℕ) → count ≤ length held → length_of (startup_head held) ≡ Some count → IsStartupCut (take count held)
-startup_cut count held within is = record {
+startup_cut : (count : ℕ) (held : List ℕ) → count ≤ length held → is_start (startup_head held) ≡ true → length_of (startup_head held) ≡ Some count → IsStartupCut (take count held)
+startup_cut count held within kind is = record {
   behind = drop count held;
+  kind = ap (λ (h : List ℕ). is_start (startup_head h)) (take-append-drop count held) ∙ kind;
   cut = ap (λ (h : List ℕ). length_of (startup_head h)) (take-append-drop count held) ∙ is ∙ ap Some (cut_length count held within);
 }
 
-front_cut : (count : ℕ) (held : List ℕ) → count ≤ length held → length_of (front_head held) ≡ Some count → IsFrontCut (take count held)
-front_cut count held within is = record {
+front_cut : (count : ℕ) (held : List ℕ) → count ≤ length held → is_query (front_head held) ≡ true → length_of (front_head held) ≡ Some count → IsFrontCut (take count held)
+front_cut count held within kind is = record {
   behind = drop count held;
+  kind = ap (λ (h : List ℕ). is_query (front_head h)) (take-append-drop count held) ∙ kind;
   cut = ap (λ (h : List ℕ). length_of (front_head h)) (take-append-drop count held) ∙ is ∙ ap Some (cut_length count held within);
 }
 
-start_skipped : (opening : Opening) (old mid new : Session) (found : Option ℕ) → length_of (startup_head (held_of old)) ≡ found → old.phase ≡ phases.Start → Skips found old mid → Takes Refuses mid new → Moved opening old new
-start_skipped opening old mid new None there is s t = absurd s
-start_skipped opening old mid new (Some count) there is s t =
-    moved_by opening old mid new phases.Start Unread Refuses count is (λ s c r. r) s.1 t (startup_cut count (held_of old) s.0 there)
+start_skipped : (opening : Opening) (old mid new : Session) (found : Option ℕ) → length_of (startup_head (held_of old)) ≡ found → is_start (startup_head (held_of old)) ≡ true → old.phase ≡ phases.Start → Skips found old mid → Takes Refuses mid new → Moved opening old new
+start_skipped opening old mid new None there kind is s t = absurd s
+start_skipped opening old mid new (Some count) there kind is s t =
+    moved_by opening old mid new phases.Start Unread Refuses count is (λ s c r. r) s.1 t (startup_cut count (held_of old) s.0 kind there)
 
-pub start_unread : (opening : Opening) (old mid new : Session) → old.phase ≡ phases.Start → Skips (length_of (startup_head (held_of old))) old mid → Takes Refuses mid new → Moved opening old new
-start_unread opening old mid new is s t = start_skipped opening old mid new (length_of (startup_head (held_of old))) refl is s t
+pub start_unread : (opening : Opening) (old mid new : Session) → old.phase ≡ phases.Start → is_start (startup_head (held_of old)) ≡ true → Skips (length_of (startup_head (held_of old))) old mid → Takes Refuses mid new → Moved opening old new
+start_unread opening old mid new is kind s t = start_skipped opening old mid new (length_of (startup_head (held_of old))) refl kind is s t
 
-message_skipped : (opening : Opening) (old mid new : Session) (found : Option ℕ) → length_of (front_head (held_of old)) ≡ found → old.phase ≡ phases.Ready → Skips found old mid → Takes RunsOut mid new → Moved opening old new
-message_skipped opening old mid new None there is s t = absurd s
-message_skipped opening old mid new (Some count) there is s t =
-    moved_by opening old mid new phases.Ready Unread RunsOut count is (λ s c r. r) s.1 t (front_cut count (held_of old) s.0 there)
+message_skipped : (opening : Opening) (old mid new : Session) (found : Option ℕ) → length_of (front_head (held_of old)) ≡ found → is_query (front_head (held_of old)) ≡ true → old.phase ≡ phases.Ready → Skips found old mid → Takes RunsOut mid new → Moved opening old new
+message_skipped opening old mid new None there kind is s t = absurd s
+message_skipped opening old mid new (Some count) there kind is s t =
+    moved_by opening old mid new phases.Ready Unread RunsOut count is (λ s c r. r) s.1 t (front_cut count (held_of old) s.0 kind there)
 
-pub message_unread : (opening : Opening) (old mid new : Session) → old.phase ≡ phases.Ready → Skips (length_of (front_head (held_of old))) old mid → Takes RunsOut mid new → Moved opening old new
-message_unread opening old mid new is s t = message_skipped opening old mid new (length_of (front_head (held_of old))) refl is s t
+pub message_unread : (opening : Opening) (old mid new : Session) → old.phase ≡ phases.Ready → is_query (front_head (held_of old)) ≡ true → Skips (length_of (front_head (held_of old))) old mid → Takes RunsOut mid new → Moved opening old new
+message_unread opening old mid new is kind s t = message_skipped opening old mid new (length_of (front_head (held_of old))) refl kind is s t
 
 -- a Query's end takes no bytes
 pub query_ended : (opening : Opening) (old new : Session) (complete : Back) → old.phase ≡ phases.Query complete → Takes (EndsQuery complete) old new → Moved opening old new
 query_ended opening old new complete is t = record {
   did = record { input = Next; bytes = []; course = t.course };
   step = subst (λ p. Step opening p Next (state_of old) t.course) (sym is) t.rule_is;
-  eats = subst (λ p. Eats p Next []) (sym is) refl;
+  read_as = subst (λ p. IsReadAs p Next []) (sym is) refl;
   held = sym t.keeps.held;
   state = t.state;
   put = t.put;

@@ -3,25 +3,25 @@ use Rattle.std.proofs.Common.{◌≡◌, ◌∙◌, ℕ, suc, ◌+◌, ◌<◌, 
 use Rattle.std.proofs.lemmas.Grind.{flat_map-append}
 use Rattle.pg_messages.specs.BackSpelling.{back_bytes}
 use Rattle.pg_messages.specs.declared.back.Back.{Back}
-use Rattle.session_poll.specs.Output.{is_empty, Begins}
+use Rattle.session_poll.specs.Output.{is_empty, KeepsFront}
 use Rattle.session_poll.specs.Replies.{spelled}
 
 pub drop_not_empty : (start : ℕ) (bytes : List ℕ) → start < length bytes → is_empty (drop start bytes) ≡ false
 drop_not_empty start bytes within = rw (drop-cons bytes start 0 within) refl
 
-pub begins_same : (bytes : List ℕ) → Begins bytes bytes
+pub begins_same : (bytes : List ℕ) → KeepsFront bytes bytes
 begins_same bytes = record { front = take_all (length bytes) bytes (le_of_eq refl); longer = le_of_eq refl }
 
-pub begins_as : (old mid new : List ℕ) → Begins old mid → new ≡ mid → Begins old new
-begins_as old mid new is same = subst (Begins old) (sym same) is
+pub begins_as : (old mid new : List ℕ) → KeepsFront old mid → new ≡ mid → KeepsFront old new
+begins_as old mid new is same = subst (KeepsFront old) (sym same) is
 
 front_behind : (old mid more : List ℕ) → length old ≤ length mid → take (length old) (mid ++ more) ≡ take (length old) mid
 front_behind [] mid more longer = refl
 front_behind (x ∷ old) [] more longer = absurd (omega (arith, longer))
 front_behind (x ∷ old) (y ∷ mid) more longer = ap (λ (b : List ℕ). y ∷ b) (front_behind old mid more (omega (arith, longer)))
 
-pub begins_put : (old mid more new : List ℕ) → Begins old mid → new ≡ mid ++ more → Begins old new
-begins_put old mid more new is put = subst (Begins old) (sym put) (record {
+pub begins_put : (old mid more new : List ℕ) → KeepsFront old mid → new ≡ mid ++ more → KeepsFront old new
+begins_put old mid more new is put = subst (KeepsFront old) (sym put) (record {
   front = front_behind old mid more is.longer ∙ is.front;
   longer = let sum = length-append mid more in let longer = is.longer in omega (arith, sum, longer);
 })

@@ -35,12 +35,12 @@ on_nothing : (opening : Opening) (old new : Session) → Same old new → (fed t
 on_nothing opening old new same fed taken run is = subst (λ r. IsAt opening fed taken r new) (sym (append-nil run)) (at_same opening fed taken run old new same is)
 
 -- there was no room
-pub polls_full : (opening : Opening) (old new : Session) → Same old new → is_empty (waiting_of new) ≡ false → Polls opening old polled.NeedOutput new
-polls_full opening old new same waits = record {
+pub polls_full : (opening : Opening) (old new : Session) → Same old new → new.output.is_ready ≡ false → is_empty (waiting_of new) ≡ false → Polls opening old polled.NeedOutput new
+polls_full opening old new same full waits = record {
   did = [];
   one = omega arith;
   on = on_nothing opening old new same;
-  says = inr (refl, waits);
+  says = inr (refl, full, waits);
   busy = λ is. absurd (not_again polled.NeedOutput refl is);
   over = same.input.over;
 }
@@ -57,7 +57,7 @@ polls_by opening old mid new true same m = record {
   did = m.did ∷ [];
   one = omega arith;
   on = λ fed taken run is. at_moved opening fed taken run mid new m (at_same opening fed taken run old mid same is);
-  says = inl refl;
+  says = refl;
   busy = λ is. refl;
   over = m.over ∙ same.input.over;
 }

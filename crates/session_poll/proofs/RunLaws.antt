@@ -3,26 +3,26 @@ use Rattle.std.proofs.Common.{◌≡◌, ◌∙◌, ℕ, List, [], ◌∷◌, �
 use Rattle.session_poll.specs.declared.opening.Opening.{Opening}
 use Rattle.session_poll.specs.declared.session.Session.{Session}
 use Rattle.session_poll.specs.Courses.{Course, Event}
-use Rattle.session_poll.specs.Packets.{Eats}
+use Rattle.session_poll.specs.Packets.{IsReadAs}
 use Rattle.session_poll.specs.Parts.{Same, Moved}
 use Rattle.session_poll.specs.Replies.{spelled}
-use Rattle.session_poll.specs.Runs.{Did, IsRunFrom, IsRun, end_from, end_of, eaten, replied, events_of, AllFit, HasSnapshot, IsAt}
+use Rattle.session_poll.specs.Runs.{Did, IsRunFrom, IsRun, end_from, end_of, bytes_read, replied, events_of, AllFit, HasSnapshot, IsAt}
 use Rattle.session_poll.specs.Session.{state_of, held_of, waiting_of}
 use Rattle.session_poll.specs.State.{State, opening_state}
 use Rattle.session_poll.specs.Steps.{Step}
 use Rattle.session_poll.proofs.CourseLaws.{fit_append}
 
-run_more : (opening : Opening) (old : State) (run : List Did) (did : Did) → IsRunFrom opening old run → Step opening (end_from old run).phase did.input (end_from old run) did.course → Eats (end_from old run).phase did.input did.bytes → IsRunFrom opening old (run ++ did ∷ [])
-run_more opening old [] did is step eats = (step, eats, tt)
-run_more opening old (d ∷ ds) did is step eats = (is.0, is.1, run_more opening d.course.after ds did is.2 step eats)
+run_more : (opening : Opening) (old : State) (run : List Did) (did : Did) → IsRunFrom opening old run → Step opening (end_from old run).phase did.input (end_from old run) did.course → IsReadAs (end_from old run).phase did.input did.bytes → IsRunFrom opening old (run ++ did ∷ [])
+run_more opening old [] did is step read_as = (step, read_as, tt)
+run_more opening old (d ∷ ds) did is step read_as = (is.0, is.1, run_more opening d.course.after ds did is.2 step read_as)
 
 end_more : (old : State) (run : List Did) (did : Did) → end_from old (run ++ did ∷ []) ≡ did.course.after
 end_more old [] did = refl
 end_more old (d ∷ ds) did = end_more d.course.after ds did
 
-eaten_more : (run : List Did) (did : Did) → eaten (run ++ did ∷ []) ≡ eaten run ++ did.bytes
-eaten_more [] did = append-nil did.bytes
-eaten_more (d ∷ ds) did = ap (λ (b : List ℕ). d.bytes ++ b) (eaten_more ds did) ∙ sym (append_assoc d.bytes (eaten ds) did.bytes)
+bytes_read_more : (run : List Did) (did : Did) → bytes_read (run ++ did ∷ []) ≡ bytes_read run ++ did.bytes
+bytes_read_more [] did = append-nil did.bytes
+bytes_read_more (d ∷ ds) did = ap (λ (b : List ℕ). d.bytes ++ b) (bytes_read_more ds did) ∙ sym (append_assoc d.bytes (bytes_read ds) did.bytes)
 
 replied_more : (run : List Did) (did : Did) → replied (run ++ did ∷ []) ≡ replied run ++ spelled did.course.replies
 replied_more [] did = append-nil (spelled did.course.replies)
@@ -43,7 +43,7 @@ pub at_same : (opening : Opening) (fed taken : List ℕ) (run : List Did) (old n
 at_same opening fed taken run old new same is = record {
   is_run = is.is_run;
   state = same.state ∙ is.state;
-  input = is.input ∙ ap (λ (h : List ℕ). eaten run ++ h) (sym same.input.held);
+  input = is.input ∙ ap (λ (h : List ℕ). bytes_read run ++ h) (sym same.input.held);
   output = is.output ∙ ap (λ (w : List ℕ). taken ++ w) (sym same.waiting);
   fit = is.fit;
   snapshot = subst (HasSnapshot 0) (sym (ap (λ (s : State). s.transaction) same.state)) is.snapshot;
@@ -55,9 +55,9 @@ at_moved opening fed taken run old new m is =
     record {
       is_run = run_more opening opening_state run m.did is.is_run
           (subst (λ s. Step opening s.phase m.did.input s m.did.course) is.state m.step)
-          (subst (λ s. Eats s.phase m.did.input m.did.bytes) is.state m.eats);
+          (subst (λ s. IsReadAs s.phase m.did.input m.did.bytes) is.state m.read_as);
       state = m.state ∙ sym (end_more opening_state run m.did);
-      input = is.input ∙ ap (λ (h : List ℕ). eaten run ++ h) m.held ∙ sym (append_assoc (eaten run) m.did.bytes (held_of new)) ∙ ap (λ (b : List ℕ). b ++ held_of new) (sym (eaten_more run m.did));
+      input = is.input ∙ ap (λ (h : List ℕ). bytes_read run ++ h) m.held ∙ sym (append_assoc (bytes_read run) m.did.bytes (held_of new)) ∙ ap (λ (b : List ℕ). b ++ held_of new) (sym (bytes_read_more run m.did));
       output = replied_more run m.did ∙ ap (λ (b : List ℕ). b ++ spelled m.did.course.replies) is.output ∙ append_assoc taken (waiting_of old) (spelled m.did.course.replies) ∙ ap (λ (b : List ℕ). taken ++ b) (sym m.put);
       fit = fit_more 0 run m.did is.fit log.0;
       snapshot = log.1;

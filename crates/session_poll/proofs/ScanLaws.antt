@@ -20,7 +20,7 @@ use Rattle.feature_expr.specs.declared.value.Value.{Value}
 use Rattle.plain_relation.specs.Relations.{relation_of, columns_of, SameRelation}
 use Rattle.plain_relation.specs.Relations as plain
 use Rattle.session_poll.specs.declared.opening.Opening.{Opening}
-use Rattle.session_poll.specs.Answers.{IsAnswer, row_count, row_weight, column_weight, columns_weigh}
+use Rattle.session_poll.specs.Answers.{IsAnswer, heading, table_heading, is_somewhere, row_count, row_weight, column_weight, columns_weigh}
 use Rattle.session_poll.specs.Scans.{is_of, scanned, scanned_column, scanned_row, scanned_rows}
 use Rattle.session_poll.specs.Servable.{IsServable}
 use Rattle.session_poll.proofs.AndLaws.{and_holds, and_weighs, weighs_true}
@@ -253,6 +253,15 @@ staying_weigh : (model : Expr) (columns : List VColumn) → columns_weigh (colum
 staying_weigh model [] = omega arith
 staying_weigh model (column ∷ columns) = one_staying model column columns (can_hold model column.cond) refl (staying_weigh model columns)
 
+-- the columns that stay are those that some variant has, in their order
+one_heading : (model : Expr) (table : Table) (column : Column) (columns : List Column) (can : Bool) → is_somewhere model table column ≡ can → map heading (columns_staying model (map (scanned_column table) columns)) ≡ map table_heading (filter (is_somewhere model table) columns) → map heading (columns_staying model (map (scanned_column table) (column ∷ columns))) ≡ map table_heading (filter (is_somewhere model table) (column ∷ columns))
+one_heading model table column columns true is rest = rw is (ap (λ xs. table_heading column ∷ xs) rest)
+one_heading model table column columns false is rest = rw is rest
+
+headings : (model : Expr) (table : Table) (columns : List Column) → map heading (columns_staying model (map (scanned_column table) columns)) ≡ map table_heading (filter (is_somewhere model table) columns)
+headings model table [] = refl
+headings model table (column ∷ columns) = one_heading model table column columns (is_somewhere model table column) refl (headings model table columns)
+
 -- in table form it is a right answer
 pub normal_is_answer : (opening : Opening) (number : ℕ) (table : Table) (before after : VTable) → IsServable opening → slice_get opening.catalog.tables number ≡ Some table → before ≡ scanned number table opening.rows → IsNormalOf opening.model before after → IsAnswer opening number table after
 normal_is_answer opening number table before after servable there is normal =
@@ -266,6 +275,7 @@ normal_is_answer opening number table before after servable there is normal =
     let within = columns_weigh_within table table.columns in
     record {
       form = made.form;
+      columns = ap (map heading) made.columns ∙ headings opening.catalog.model table table.columns;
       formed = made.answer;
       right = λ c admitted. subst (SameRelation (answer_at c after)) (relation_same c number table opening.rows ∙ sym (database_there c opening number table there)) (made.same c admitted);
       rows = omega (arith, fewer, count);

@@ -4,7 +4,7 @@ use Rattle.session_poll.specs.declared.opening.Opening.{Opening}
 use Rattle.session_poll.specs.declared.session.Session.{Session}
 use Rattle.session_poll.specs.declared.state.Phase.TheVariants as phases
 use Rattle.session_poll.specs.declared.state.Transaction.TheVariants as transactions
-use Rattle.session_poll.specs.Runs.{Did, eaten, replied, HasSnapshot, IsAt}
+use Rattle.session_poll.specs.Runs.{Did, bytes_read, replied, HasSnapshot, IsAt}
 use Rattle.session_poll.specs.Session.{state_of, held_of, waiting_of}
 use Rattle.session_poll.specs.State.{State, opening_state}
 
@@ -22,7 +22,7 @@ pub at_fed : (old new : Session) (bytes : List ℕ) → state_of new ≡ state_o
 at_fed old new bytes state waiting held opening fed taken run is = record {
   is_run = is.is_run;
   state = state ∙ is.state;
-  input = ap (λ (f : List ℕ). f ++ bytes) is.input ∙ append_assoc (eaten run) (held_of old) bytes ∙ ap (λ (h : List ℕ). eaten run ++ h) (sym held);
+  input = ap (λ (f : List ℕ). f ++ bytes) is.input ∙ append_assoc (bytes_read run) (held_of old) bytes ∙ ap (λ (h : List ℕ). bytes_read run ++ h) (sym held);
   output = is.output ∙ ap (λ (w : List ℕ). taken ++ w) (sym waiting);
   fit = is.fit;
   snapshot = subst (HasSnapshot 0) (sym (ap (λ (s : State). s.transaction) state)) is.snapshot;
@@ -32,7 +32,7 @@ pub at_ended : (old new : Session) → state_of new ≡ state_of old → waiting
 at_ended old new state waiting held opening fed taken run is = record {
   is_run = is.is_run;
   state = state ∙ is.state;
-  input = is.input ∙ ap (λ (h : List ℕ). eaten run ++ h) (sym held);
+  input = is.input ∙ ap (λ (h : List ℕ). bytes_read run ++ h) (sym held);
   output = is.output ∙ ap (λ (w : List ℕ). taken ++ w) (sym waiting);
   fit = is.fit;
   snapshot = subst (HasSnapshot 0) (sym (ap (λ (s : State). s.transaction) state)) is.snapshot;
@@ -51,7 +51,7 @@ at_taken old new count state held waiting opening fed taken run is =
     record {
       is_run = is.is_run;
       state = state ∙ is.state;
-      input = is.input ∙ ap (λ (h : List ℕ). eaten run ++ h) (sym held);
+      input = is.input ∙ ap (λ (h : List ℕ). bytes_read run ++ h) (sym held);
       output = is.output
           ∙ ap (λ (w : List ℕ). taken ++ w) (sym (take-append-drop most (waiting_of old)))
           ∙ sym (append_assoc taken (take most (waiting_of old)) (drop most (waiting_of old)))

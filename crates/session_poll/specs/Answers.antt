@@ -1,15 +1,18 @@
 -- The answer to a bare table.
 use Rattle.std.specs.Prelude.{◌≡◌, ℕ, ◌+◌, ◌≤◌, ◌==◌, Bool, List, [], ◌∷◌, map, filter, length, Option, Some, None, if◌then◌else◌}
 use Rattle.condition_sat.specs.Admitted.{IsAdmitted}
-use Rattle.feature_expr.specs.Expressions.{weight_of}
+use Rattle.feature_expr.specs.Expressions.{and_of, weight_of}
+use Rattle.feature_expr.specs.declared.expr.Expr.{Expr}
 use Rattle.plain_relation.specs.Relations.{SameRelation}
+use Rattle.plain_relation.specs.Relations as plain
 use Rattle.session_poll.specs.declared.opening.Opening.{Opening}
 use Rattle.vschema.specs.declared.catalog.Column.{Column}
 use Rattle.vschema.specs.declared.catalog.OpeningRow.{OpeningRow}
 use Rattle.vschema.specs.declared.catalog.Table.{Table}
 use Rattle.session_poll.specs.Scans.{is_of}
-use Rattle.vschema.specs.Variants.{opening_database}
+use Rattle.vschema.specs.Variants.{bare_name, opening_database}
 use Rattle.vtable.specs.Answers.{answer_at, IsAnswerAt}
+use Rattle.vtable.specs.Possible.{can_hold}
 use Rattle.vtable.specs.TableForm.{rows_weight, IsTableForm}
 use Rattle.vtable.specs.declared.table.VColumn.{VColumn}
 use Rattle.vtable.specs.declared.table.VRow.{VRow}
@@ -32,10 +35,23 @@ abbrev pub columns_weigh : List VColumn → ℕ
 columns_weigh [] = 0
 columns_weigh (column ∷ columns) = weight_of column.cond + columns_weigh columns
 
--- The answer is in table form. In each admitted variant it is well formed, and is the variant's plain table. It has no
--- more rows than the table, and its conditions weigh no more than the table's do.
+-- a column of an answer, without its condition
+abbrev pub heading : VColumn → plain.Column
+heading column = record { name = column.name; kind = column.kind }
+
+abbrev pub table_heading : Column → plain.Column
+table_heading column = record { name = bare_name column.name; kind = column.kind }
+
+-- whether some admitted variant has a column and its table
+abbrev pub is_somewhere : Expr → Table → Column → Bool
+is_somewhere model table column = can_hold model (and_of table.cond column.cond)
+
+-- The answer is in table form, and its columns are those of the table that some admitted variant has, in the table's
+-- order. In each admitted variant it is well formed, and is the variant's plain table. Its rows and its conditions are
+-- within the table's bounds.
 pub record IsAnswer (opening : Opening) (number : ℕ) (table : Table) (answer : VTable) : Type 0 where
   pub form : IsTableForm opening.catalog.model answer
+  pub columns : map heading answer.columns ≡ map table_heading (filter (is_somewhere opening.catalog.model table) table.columns)
   pub formed : (c : List ℕ) → IsAdmitted opening.catalog.model c → IsAnswerAt c answer
   pub right : (c : List ℕ) → IsAdmitted opening.catalog.model c → SameRelation (answer_at c answer) (opening_database c opening.catalog opening.rows number)
   pub rows : length answer.rows ≤ row_count number opening.rows

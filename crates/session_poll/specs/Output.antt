@@ -10,6 +10,6 @@ is_empty [] = true
 is_empty (byte ∷ bytes) = false
 
 -- the bytes that waited still come first
-pub record Begins (old new : List ℕ) : Type 0 where
+pub record KeepsFront (old new : List ℕ) : Type 0 where
   pub front : take (length old) new ≡ old
   pub longer : length old ≤ length new

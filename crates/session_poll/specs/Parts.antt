@@ -8,7 +8,7 @@ use Rattle.session_poll.specs.declared.session.Session.{Session}
 use Rattle.session_poll.specs.Answers.{IsAnswer}
 use Rattle.session_poll.specs.AnswerMessages.{answer_messages, select_complete}
 use Rattle.session_poll.specs.Courses.{Course}
-use Rattle.session_poll.specs.Packets.{Eats}
+use Rattle.session_poll.specs.Packets.{IsReadAs}
 use Rattle.session_poll.specs.Queries.{Tells}
 use Rattle.session_poll.specs.Replies.{spelled, error_of, ready_for_query}
 use Rattle.session_poll.specs.Runs.{AllFit, Did, HasSnapshot}
@@ -106,7 +106,7 @@ pub record ToldEnd (complete : Back) (old new : Session) : Type 0 where
 pub record Moved (opening : Opening) (old new : Session) : Type 0 where
   pub did : Did
   pub step : Step opening old.phase did.input (state_of old) did.course
-  pub eats : Eats old.phase did.input did.bytes
+  pub read_as : IsReadAs old.phase did.input did.bytes
   pub held : held_of old ≡ did.bytes ++ held_of new
   pub state : state_of new ≡ did.course.after
   pub put : waiting_of new ≡ waiting_of old ++ spelled did.course.replies

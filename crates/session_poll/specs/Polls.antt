@@ -1,5 +1,5 @@
 -- What a poll does: none or one step of the session machine.
-use Rattle.std.specs.Prelude.{◌≡◌, ℕ, ◌≤◌, List, [], ◌∷◌, ◌++◌, length}
+use Rattle.std.specs.Prelude.{◌≡◌, ℕ, ◌≤◌, Bool, true, false, List, [], ◌∷◌, ◌++◌, length}
 use Rattle.session_poll.specs.declared.opening.Opening.{Opening}
 use Rattle.session_poll.specs.declared.polled.Polled.{Polled}
 use Rattle.session_poll.specs.declared.polled.Polled.TheVariants as polled
@@ -8,11 +8,15 @@ use Rattle.session_poll.specs.Runs.{Did, IsAt}
 use Rattle.session_poll.specs.Session.{is_over}
 use Rattle.session_poll.specs.Standing.{Says}
 
+abbrev pub has_moved : List Did → Bool
+has_moved [] = false
+has_moved (did ∷ dids) = true
+
 -- every run that the session was at the end of goes on by the steps of the poll
 pub record Polls (opening : Opening) (old : Session) (result : Polled) (new : Session) : Type 0 where
   pub did : List Did
   pub one : length did ≤ 1
   pub on : (fed taken : List ℕ) (run : List Did) → IsAt opening fed taken run old → IsAt opening fed taken (run ++ did) new
-  pub says : Says result new
+  pub says : Says (has_moved did) result new
   pub busy : result ≡ polled.Again → length did ≡ 1
   pub over : is_over new ≡ is_over old

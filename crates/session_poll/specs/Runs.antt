@@ -5,7 +5,7 @@ use Rattle.session_poll.specs.declared.session.Session.{Session}
 use Rattle.session_poll.specs.declared.state.Transaction.{Transaction}
 use Rattle.session_poll.specs.declared.state.Transaction.TheVariants as transactions
 use Rattle.session_poll.specs.Courses.{Course, Event, Begun, Viewed, Input}
-use Rattle.session_poll.specs.Packets.{Eats}
+use Rattle.session_poll.specs.Packets.{IsReadAs}
 use Rattle.session_poll.specs.Replies.{spelled}
 use Rattle.session_poll.specs.Session.{state_of, held_of, waiting_of}
 use Rattle.session_poll.specs.State.{State, opening_state}
@@ -20,16 +20,16 @@ pub record Did : Type 0 where
 abbrev pub IsRunFrom : Opening → State → List Did → Type 0
 IsRunFrom opening old [] = Unit {0}
 IsRunFrom opening old (did ∷ dids) =
-    Step opening old.phase did.input old did.course × Eats old.phase did.input did.bytes × IsRunFrom opening did.course.after dids
+    Step opening old.phase did.input old did.course × IsReadAs old.phase did.input did.bytes × IsRunFrom opening did.course.after dids
 
 abbrev pub end_from : State → List Did → State
 end_from old [] = old
 end_from old (did ∷ dids) = end_from did.course.after dids
 
 -- the bytes that the steps took, in order
-abbrev pub eaten : List Did → List ℕ
-eaten [] = []
-eaten (did ∷ dids) = did.bytes ++ eaten dids
+abbrev pub bytes_read : List Did → List ℕ
+bytes_read [] = []
+bytes_read (did ∷ dids) = did.bytes ++ bytes_read dids
 
 -- the bytes of their replies, in order
 abbrev pub replied : List Did → List ℕ
@@ -65,7 +65,7 @@ end_of run = end_from opening_state run
 pub record IsAt (opening : Opening) (fed taken : List ℕ) (run : List Did) (session : Session) : Type 0 where
   pub is_run : IsRun opening run
   pub state : state_of session ≡ end_of run
-  pub input : fed ≡ eaten run ++ held_of session
+  pub input : fed ≡ bytes_read run ++ held_of session
   pub output : replied run ≡ taken ++ waiting_of session
   pub fit : AllFit 0 (events_of run)
   pub snapshot : HasSnapshot 0 session.transaction

@@ -34,6 +34,8 @@ standing_of session =
     let work = works (state_of session).phase (held_of session) in
     stands work (is_ended (state_of session).phase || is_over session && not work) (is_empty (waiting_of session))
 
--- a poll says how the session stands, or that output waits for which there is no room
-abbrev pub Says : Polled → Session → Type 0
-Says result session = (result ≡ standing_of session) ⊎ ((result ≡ polled.NeedOutput) × (is_empty (waiting_of session) ≡ false))
+-- A poll says how the session stands, or, where it did nothing, that there is no memory for more behind what waits.
+abbrev pub Says : Bool → Polled → Session → Type 0
+Says true result session = result ≡ standing_of session
+Says false result session =
+    (result ≡ standing_of session) ⊎ ((result ≡ polled.NeedOutput) × (session.output.is_ready ≡ false) × (is_empty (waiting_of session) ≡ false))

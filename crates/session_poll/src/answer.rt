@@ -3,7 +3,7 @@
 ghost use Rattle.std.specs.Prelude.{◌≡◌, ◌++◌, [], ◌∷◌, map, length, true, take, drop, IfOk, OnOk, OnErr};
 ghost use Rattle.session_poll.specs.AnswerMessages.{name_text, when_text, field_of, column_field, when_field, value_text, cell_text, select_tag, select_complete};
 ghost use Rattle.session_poll.specs.AnswerMessages as spelling;
-ghost use Rattle.session_poll.specs.Output.{Begins};
+ghost use Rattle.session_poll.specs.Output.{KeepsFront};
 ghost use Rattle.session_poll.specs.Replies.{spelled};
 
 use crate::output::Output;
@@ -42,7 +42,7 @@ fn put_messages(
 ) -> Result<(), Memory>
     requires { output.old.is_ready ≡ true }
     ensures ok { OnOk result (output.new.bytes ≡ output.old.bytes ++ spelled (spelling.answer_messages features.now answer.now)) }
-    ensures begins { Begins output.old.bytes output.new.bytes }
+    ensures begins { KeepsFront output.old.bytes output.new.bytes }
     ensures ready { output.new.is_ready ≡ true }
 {
     let description = describe(alloc, answer.columns.as_slice(), features)?;
@@ -59,7 +59,7 @@ fn put_rows(
 ) -> Result<(), Memory>
     requires { output.old.is_ready ≡ true }
     ensures ok { OnOk result (output.new.bytes ≡ output.old.bytes ++ spelled (map (spelling.data_row features.now) rows.now)) }
-    ensures begins { Begins output.old.bytes output.new.bytes }
+    ensures begins { KeepsFront output.old.bytes output.new.bytes }
     ensures ready { output.new.is_ready ≡ true }
 {
     'rows: for row in rows {

@@ -1,7 +1,7 @@
 ghost use Rattle.std.specs.Prelude.{◌≡◌, ◌≤◌, ◌+◌, true, false, [], ◌++◌, length, take, drop, vec_len, vec_capacity, IfOk, OnOk, OnErr};
 ghost use Rattle.pg_messages.specs.BackSpelling.{back_bytes};
 ghost use Rattle.session_poll.specs.Replies.{spelled};
-ghost use Rattle.session_poll.specs.Output.{Begins, is_empty};
+ghost use Rattle.session_poll.specs.Output.{KeepsFront, is_empty};
 ghost use Rattle.session_poll.specs.declared.output.TheConstants.{FIXED_SIZE};
 
 use feature_expr::Memory;
@@ -106,7 +106,7 @@ impl Output {
         self.is_ready = false;
     }
 
-    /// Puts a message behind the bytes that wait. Memory is the one reason for which a session's message isn't put.
+    /// Puts a message behind the bytes that wait. One that is too long to be told counts as want of memory.
     pub fn put(&mut self, back: &Back) -> Result<(), Memory>
         requires { self.old.is_ready ≡ true }
         ensures ok { OnOk result (self.new.bytes ≡ self.old.bytes ++ back_bytes back.now) }
@@ -149,7 +149,7 @@ impl Output {
     fn put_each(&mut self, messages: &[Back]) -> Result<(), Memory>
         requires { self.old.is_ready ≡ true }
         ensures ok { OnOk result (self.new.bytes ≡ self.old.bytes ++ spelled messages.now) }
-        ensures begins { Begins self.old.bytes self.new.bytes }
+        ensures begins { KeepsFront self.old.bytes self.new.bytes }
         ensures ready { self.new.is_ready ≡ true }
     {
         'messages: for message in messages {

@@ -1,10 +1,10 @@
 //! A poll: none or one step of the session machine.
 
 ghost use Rattle.std.specs.Prelude.{◌≡◌, ◌≤◌, ◌++◌, true, false, not, length, take, drop, is_some, min, IfSome};
-ghost use Rattle.pg_messages.specs.FrontReading.{front_head, front_of};
+ghost use Rattle.pg_messages.specs.FrontReading.{front_head, front_of, is_query};
 ghost use Rattle.pg_messages.specs.FrontSpelling.{IsFront};
 ghost use Rattle.pg_messages.specs.Packet.{Answers, IfWhole, IfMemory, length_of};
-ghost use Rattle.pg_messages.specs.StartupReading.{startup_head, startup_of};
+ghost use Rattle.pg_messages.specs.StartupReading.{startup_head, startup_of, is_start};
 ghost use Rattle.pg_messages.specs.StartupSpelling.{IsStartup};
 ghost use Rattle.session_poll.specs.declared.state.Phase.TheVariants as phases;
 ghost use Rattle.session_poll.specs.Parts.{Drops, Skips, Moves, Takes};
@@ -123,6 +123,7 @@ impl Session {
         ensures whole { IfWhole result (λ m n. (n ≤ length (held_of self.now)) × IsStartup m (take n (held_of self.now))) }
         ensures exact { Answers result (startup_of (held_of self.now)) }
         ensures memory { IfMemory result (is_some (length_of (startup_head (held_of self.now))) ≡ true) }
+        ensures kind { IfMemory result (is_start (startup_head (held_of self.now)) ≡ true) }
     {
         decode_startup(self.alloc, self.inbox.bytes())
     }
@@ -131,6 +132,7 @@ impl Session {
         ensures whole { IfWhole result (λ m n. (n ≤ length (held_of self.now)) × IsFront m (take n (held_of self.now))) }
         ensures exact { Answers result (front_of (held_of self.now)) }
         ensures memory { IfMemory result (is_some (length_of (front_head (held_of self.now))) ≡ true) }
+        ensures kind { IfMemory result (is_query (front_head (held_of self.now)) ≡ true) }
     {
         decode_front(self.alloc, self.inbox.bytes())
     }

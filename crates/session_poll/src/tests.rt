@@ -2,7 +2,10 @@ ghost use Rattle.std.specs.Prelude.{IfOk};
 ghost use Rattle.session_poll.specs.Servable.{IsServable};
 
 use super::*;
+use feature_expr::Text;
+use pg_messages::{Back, Decoded, decode_back};
 use std::alloc::Global;
+use std::str;
 use std::test::Fail;
 use vra_types::check_catalog;
 use vschema::parse_catalog;
@@ -93,5 +96,181 @@ fn a_poll_says_how_the_session_stands(rt: HostRuntime) -> Result<(), Fail> {
     }
     session.take(session.waiting());
     assert_eq!(rt; session.poll(&opening), Polled::Closed);
+    Ok(())
+}
+
+/// A catalogue, a Query over it, and what it is answered: the fields, each row, and the tag or the error, a line each.
+const ANSWERS: [(&str, &str, &str); 15] = [
+    (
+        SMALL,
+        "emp;",
+        "id | name | pay when A | when\n1 | ann | 10 | true\n2 | bob | 20 | A\n3 | cy | - | not A\nSELECT 3\n",
+    ),
+    (
+        SMALL,
+        "dept",
+        "id when B | title when B | when\n7 | ops | true\nSELECT 1\n",
+    ),
+    // Equal rows are one, under either's condition.
+    (
+        "features A; table t (id int8, name text); row t (id 1, name 'ann'); row t (id 2, name 'bob') when A; row t (id 1, name 'ann') when A;",
+        "t",
+        "id | name | when\n1 | ann | true\n2 | bob | A\nSELECT 2\n",
+    ),
+    (
+        "features A; table t (id int8); row t (id 1) when A; row t (id 1) when not A;",
+        "t",
+        "id | when\n1 | true\nSELECT 1\n",
+    ),
+    // The rows are sorted by their cells, in the order of the columns.
+    (
+        "features A; table t (n int8, s text); row t (n 2, s 'b'); row t (n -1, s 'z'); row t (n 2, s 'a');",
+        "t",
+        "n | s | when\n-1 | z | true\n2 | a | true\n2 | b | true\nSELECT 3\n",
+    ),
+    (
+        "features A; table t (b bool, s text); row t (b true, s 'a'); row t (b false, s 'B'); row t (b false, s 'A');",
+        "t",
+        "b | s | when\nf | A | true\nf | B | true\nt | a | true\nSELECT 3\n",
+    ),
+    // An absent cell is before every value.
+    (
+        "features A; table t (id int8, x int8 when A); row t (id 1, x 5) when A; row t (id 1) when not A;",
+        "t",
+        "id | x when A | when\n1 | - | not A\n1 | 5 | A\nSELECT 2\n",
+    ),
+    // What no variant has isn't told: a row, a column, a cell.
+    (
+        "features A; table t (id int8); row t (id 1) when A and not A; row t (id 2);",
+        "t",
+        "id | when\n2 | true\nSELECT 1\n",
+    ),
+    (
+        "features A, B; model not (A and B); table t (id int8, both text when A and B); row t (id 1);",
+        "t",
+        "id | when\n1 | true\nSELECT 1\n",
+    ),
+    (
+        "features A; table t (id int8, x int8 when A); row t (id 1, x 9) when not A;",
+        "t",
+        "id | x when A | when\n1 | - | not A\nSELECT 1\n",
+    ),
+    // What always holds under the model is `true`, and isn't told of a field.
+    (
+        "features A, B; model A; table t (id int8 when A, x int8 when B); row t (id 1, x 2) when A or B;",
+        "t",
+        "id | x when B | when\n1 | 2 | true\nSELECT 1\n",
+    ),
+    // A column is there with its table alone.
+    (
+        "features A, B; table t (id int8, x text when B) when A; row t (id 1, x 'p');",
+        "t",
+        "id when A | x when A and B | when\n1 | p | true\nSELECT 1\n",
+    ),
+    ("features; table t (id int8);", "t", "id | when\nSELECT 0\n"),
+    (
+        "features; table t (id int8);",
+        " T ; -- all",
+        "id | when\nSELECT 0\n",
+    ),
+    (
+        "features; table t (id int8);",
+        "u",
+        "table u is not known\n",
+    ),
+];
+
+const SMALL: &str =
+    "features A, B;\nmodel A or B;\ntable emp (id int8, name text, pay int8 when A);\ntable dept (id int8, title text) when B;\nrow emp (id 1, name 'ann', pay 10);\nrow emp (id 2, name 'bob', pay 20) when A;\nrow emp (id 3, name 'cy') when not A;\nrow dept (id 7, title 'ops');\n";
+
+#[test]
+fn tables_are_answered_in_table_form(rt: HostRuntime) -> Result<(), Fail> {
+    for (catalogue, query, wanted) in ANSWERS {
+        let told = answer_to(rt.alloc(), catalogue, query)?;
+        assert_eq!(rt; told.as_str(), wanted, "{query} over {catalogue}");
+    }
+    Ok(())
+}
+
+/// What a session tells of a Query over a catalogue.
+fn answer_to(alloc: Global, catalogue: &str, query: &str) -> Result<String, Fail> {
+    let (catalog, rows) = parse_catalog(alloc, catalogue.as_bytes())?;
+    let model = check_catalog(alloc, &catalog, &rows)?;
+    let opening = Opening {
+        catalog,
+        rows,
+        model,
+    };
+    let stream = query_stream(alloc, query)?;
+    let bytes = reply(alloc, &opening, stream.as_slice(), 4_096)?;
+    told(alloc, bytes.as_slice())
+}
+
+/// A start-up, a Query and a Terminate.
+fn query_stream(alloc: Global, query: &str) -> Result<Vec<u8>, Fail> {
+    let mut stream = Vec::from_slice(alloc, b"\x00\x00\x00\x10\x00\x03\x00\x00user\x00u\x00\x00Q")?;
+    let length = u32::try_from(query.len().saturating_add(5)).map_err(|_| "a short text")?;
+    stream.extend_from_slice(&length.to_be_bytes())?;
+    stream.extend_from_slice(query.as_bytes())?;
+    stream.extend_from_slice(b"\x00X\x00\x00\x00\x04")?;
+    Ok(stream)
+}
+
+fn told(alloc: Global, reply: &[u8]) -> Result<String, Fail> {
+    let mut text = String::new(alloc);
+    let mut rest = reply;
+    for _ in 0..100 {
+        let Decoded::Whole(back, count) = decode_back(alloc, rest) else {
+            return Ok(text);
+        };
+        push_back(&mut text, &back)?;
+        rest = rest.get(count..).ok_or("a message")?;
+    }
+    Ok(text)
+}
+
+fn push_back(text: &mut String, back: &Back) -> Result<(), Fail> {
+    match back {
+        Back::RowDescription(fields) => {
+            for field in fields.as_slice() {
+                push_cell(text, Some(&field.name))?;
+            }
+            end_line(text)
+        }
+        Back::DataRow(cells) => {
+            for cell in cells.as_slice() {
+                push_cell(text, cell.as_ref())?;
+            }
+            end_line(text)
+        }
+        Back::CommandComplete(tag) => {
+            push_cell(text, Some(tag))?;
+            end_line(text)
+        }
+        Back::ErrorResponse(fields) => {
+            let last = fields.as_slice().last().ok_or("a text")?;
+            push_cell(text, Some(&last.text))?;
+            end_line(text)
+        }
+        _ => Ok(()),
+    }
+}
+
+fn push_cell(text: &mut String, cell: Option<&Text>) -> Result<(), Fail> {
+    match cell {
+        Some(cell) => text.push_str(str::from_utf8(cell.as_slice())?)?,
+        None => text.push_str("-")?,
+    }
+    text.push_str(" | ")?;
+    Ok(())
+}
+
+/// Ends a line in place of the bar behind its last cell.
+fn end_line(text: &mut String) -> Result<(), Fail> {
+    let end = text.len().saturating_sub(3);
+    if text.is_char_boundary(end) {
+        text.truncate(end);
+    }
+    text.push_str("\n")?;
     Ok(())
 }

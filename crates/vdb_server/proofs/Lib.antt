@@ -1,3 +1,5 @@
+mod CheckLaws
+mod CompleteLaws
 mod Pieces
 mod ReplayLaws
 mod ReplayedLaws

@@ -5,7 +5,7 @@ use Rattle.std.proofs.KnownBytes.{Appends-trans, Appends-nil}
 use Rattle.causes.specs.Faults.{Rose}
 use Rattle.session_poll.specs.Output.{is_empty}
 use Rattle.session_poll.specs.Polls.{Polls}
-use Rattle.session_poll.specs.Runs.{Did, IsRun, AllFit, end_of, eaten, events_of, replied, IsAt}
+use Rattle.session_poll.specs.Runs.{Did, IsRun, AllFit, end_of, bytes_read, events_of, replied, IsAt}
 use Rattle.session_poll.specs.Session.{state_of, held_of, waiting_of, is_over}
 use Rattle.session_poll.specs.Standing.{works, is_ended, stands, standing_of, Says}
 use Rattle.session_poll.specs.State.{State}
@@ -36,9 +36,9 @@ front_rest before mid after count piece first rest = record {
 }
 
 -- all that a session was fed, and the rest of the stream
-input_of : (opening : Opening) (stream : List ℕ) (fed : ℕ) (taken : List ℕ) (run : List Did) (session : Session) → IsAt opening (take fed stream) taken run session → stream ≡ eaten run ++ (held_of session ++ drop fed stream)
+input_of : (opening : Opening) (stream : List ℕ) (fed : ℕ) (taken : List ℕ) (run : List Did) (session : Session) → IsAt opening (take fed stream) taken run session → stream ≡ bytes_read run ++ (held_of session ++ drop fed stream)
 input_of opening stream fed taken run session is =
-    sym (take-append-drop fed stream) ∙ ap (λ (f : List ℕ). f ++ drop fed stream) is.input ∙ append_assoc (eaten run) (held_of session) (drop fed stream)
+    sym (take-append-drop fed stream) ∙ ap (λ (f : List ℕ). f ++ drop fed stream) is.input ∙ append_assoc (bytes_read run) (held_of session) (drop fed stream)
 
 pub replays_so_far : (opening : Opening) (stream : List ℕ) (fed : ℕ) (start now : Option (List ℕ)) (session : Session) → InReplay opening stream fed start now session → Replays opening stream start now
 replays_so_far opening stream fed start now session is = record {
@@ -180,9 +180,10 @@ nothing_waits : (waiting : List ℕ) → is_empty waiting ≡ true → waiting �
 nothing_waits [] is = refl
 nothing_waits (byte ∷ bytes) is = absurd (true≢false (sym is))
 
-says_closed : (session : Session) → Says polled.Closed session → standing_of session ≡ polled.Closed
-says_closed session (inl is) = sym is
-says_closed session (inr full) = absurd (not_closed polled.NeedOutput refl (sym full.0))
+says_closed : (moved : Bool) (session : Session) → Says moved polled.Closed session → standing_of session ≡ polled.Closed
+says_closed true session is = sym is
+says_closed false session (inl is) = sym is
+says_closed false session (inr full) = absurd (not_closed polled.NeedOutput refl (sym full.0))
 
 read_out_by : (phase : Phase) (held left : List ℕ) → works phase held ≡ false → (is_ended phase ≡ true) ⊎ (left ≡ []) → works phase (held ++ left) ≡ false
 read_out_by phase held left none (inl ended) = ended_works phase (held ++ left) ended
@@ -192,9 +193,9 @@ whole_stream : (ended over : Bool) (stream : List ℕ) (fed : ℕ) → (ended �
 whole_stream ended over stream fed (inl is) whole = inl is
 whole_stream ended over stream fed (inr is) whole = inr (drop_of_length-le stream (le_of_eq (sym (whole is))))
 
-pub closed_all : (opening : Opening) (stream : List ℕ) (fed : ℕ) (start now : Option (List ℕ)) (session : Session) → InReplay opening stream fed start now session → Says polled.Closed session → ReplaysAll opening stream start now
-closed_all opening stream fed start now session is says =
-    let facts = stands_closed (works session.phase (held_of session)) (is_ended session.phase || is_over session && not (works session.phase (held_of session))) (is_empty (waiting_of session)) (says_closed session says) in
+pub closed_all : (opening : Opening) (stream : List ℕ) (fed : ℕ) (start now : Option (List ℕ)) (session : Session) → InReplay opening stream fed start now session → (moved : Bool) → Says moved polled.Closed session → ReplaysAll opening stream start now
+closed_all opening stream fed start now session is moved says =
+    let facts = stands_closed (works session.phase (held_of session)) (is_ended session.phase || is_over session && not (works session.phase (held_of session))) (is_empty (waiting_of session)) (says_closed moved session says) in
     let left = whole_stream (is_ended session.phase) (is_over session) stream fed (nothing_left (works session.phase (held_of session)) (is_ended session.phase) (is_over session) facts.0 facts.1) is.over in
     let sent : replied is.run ≡ is.taken = is.at.output ∙ ap (λ (w : List ℕ). is.taken ++ w) (nothing_waits (waiting_of session) facts.2) ∙ append-nil is.taken in
     record {

@@ -18,20 +18,20 @@ use Rattle.vdb_server.specs.declared.exit.Exit.TheVariants as exit
 pub servable : (opening : Opening) → opening.model ≡ opening.catalog.model → IsFormed opening.catalog opening.rows → Passes opening.catalog opening.rows → IsServable opening
 servable opening model formed passes = record { model = model; formed = formed; filled = passes.no_gaps.values }
 
-pub replayed : (files : Files) (catalogue stream : List ℕ) (opening : Opening) (bytes : List ℕ) (result : Exit) (before after : Held) → IsCheckedFile files catalogue opening.catalog opening.rows → IsContent files.contents stream bytes → IsReplayExit result before after → Replays opening bytes before.bytes after.bytes → (result ≡ exit.Done → ReplaysAll opening bytes before.bytes after.bytes) → IsReplayedExit files catalogue stream result before after
-replayed files catalogue stream opening bytes exit.Done before after checked content ends begun all =
-    record { opening = opening; checked = checked; bytes = bytes; content = content; replays = all refl }
-replayed files catalogue stream opening bytes exit.WriteFault before after checked content ends begun all =
-    record { opening = opening; checked = checked; bytes = bytes; content = content; replays = begun }
-replayed files catalogue stream opening bytes exit.Memory before after checked content ends begun all =
-    inr (record { opening = opening; checked = checked; bytes = bytes; content = content; replays = begun })
-replayed files catalogue stream opening bytes exit.Usage before after checked content ends begun all = absurd ends
-replayed files catalogue stream opening bytes (exit.Catalogue why) before after checked content ends begun all = absurd ends
-replayed files catalogue stream opening bytes exit.ReadFault before after checked content ends begun all = absurd ends
-replayed files catalogue stream opening bytes exit.LinksFault before after checked content ends begun all = absurd ends
-replayed files catalogue stream opening bytes exit.TurnsOut before after checked content ends begun all = absurd ends
-replayed files catalogue stream opening bytes exit.TooLong before after checked content ends begun all = absurd ends
-replayed files catalogue stream opening bytes exit.KeeperFault before after checked content ends begun all = absurd ends
+pub replayed : (files : Files) (catalogue stream : List ℕ) (opening : Opening) (bytes : List ℕ) (result : Exit) (before after : Held) → IsServable opening → IsCheckedFile files catalogue opening.catalog opening.rows → IsContent files.contents stream bytes → IsReplayExit result before after → Replays opening bytes before.bytes after.bytes → (result ≡ exit.Done → ReplaysAll opening bytes before.bytes after.bytes) → IsReplayedExit files catalogue stream result before after
+replayed files catalogue stream opening bytes exit.Done before after servable checked content ends begun all =
+    record { opening = opening; checked = checked; model = servable.model; bytes = bytes; content = content; replays = all refl }
+replayed files catalogue stream opening bytes exit.WriteFault before after servable checked content ends begun all =
+    record { opening = opening; checked = checked; model = servable.model; bytes = bytes; content = content; replays = begun }
+replayed files catalogue stream opening bytes exit.Memory before after servable checked content ends begun all =
+    inr (record { opening = opening; checked = checked; model = servable.model; bytes = bytes; content = content; replays = begun })
+replayed files catalogue stream opening bytes exit.Usage before after servable checked content ends begun all = absurd ends
+replayed files catalogue stream opening bytes (exit.Catalogue why) before after servable checked content ends begun all = absurd ends
+replayed files catalogue stream opening bytes exit.ReadFault before after servable checked content ends begun all = absurd ends
+replayed files catalogue stream opening bytes exit.LinksFault before after servable checked content ends begun all = absurd ends
+replayed files catalogue stream opening bytes exit.TurnsOut before after servable checked content ends begun all = absurd ends
+replayed files catalogue stream opening bytes exit.TooLong before after servable checked content ends begun all = absurd ends
+replayed files catalogue stream opening bytes exit.KeeperFault before after servable checked content ends begun all = absurd ends
 
 -- an exit of the first read, before which nothing was put
 pub not_opened : (files files' before : Files) (name catalogue stream : List ℕ) (result : Exit) (out : Held) → IsOpeningExit before name result files' → IsReplayedExit files catalogue stream result out out

@@ -11,6 +11,7 @@ use Rattle.vra_types.specs.Check.{Passes}
 use Rattle.vra_types.specs.declared.refused.CheckRefused.TheVariants as unpassed
 use Rattle.vdb_server.specs.CheckLines.{passed_line}
 use Rattle.vdb_server.specs.Exits.{IsRefusedFile}
+use Rattle.vdb_server.specs.Replays.{PutsFront}
 use Rattle.vdb_server.specs.Sinks.{Held}
 use Rattle.vdb_server.specs.Sources.{Files, IsLong}
 use Rattle.vdb_server.specs.declared.exit.CatalogueFault.TheVariants as fault
@@ -40,12 +41,25 @@ pub record IsTold (files : Files) (name : List ℕ) (before after : Held) : Type
   pub checked : IsCheckedFile files name catalog rows
   pub put : Appends before.bytes after.bytes (passed_line catalog rows)
 
+-- such a file, and the first bytes of its line were put
+pub record IsToldInPart (files : Files) (name : List ℕ) (before after : Held) : Type 0 where
+  pub catalog : Catalog
+  pub rows : List OpeningRow
+  pub checked : IsCheckedFile files name catalog rows
+  pub put : PutsFront (passed_line catalog rows) before.bytes after.bytes
+
+-- what each exit of a check says of the bytes that were put
+abbrev pub IsToldExit : Files → List ℕ → Exit → Held → Held → Type 0
+IsToldExit files name exit.Done before after = IsTold files name before after
+IsToldExit files name exit.WriteFault before after = IsToldInPart files name before after
+IsToldExit files name other before after = after ≡ before
+
 -- the exits of a check, with their causes
 abbrev pub IsCheckExit : Files → List ℕ → Exit → Files → Held → Held → Type 0
 IsCheckExit before name exit.Done after out out' = IsTold before name out out'
 IsCheckExit before name (exit.Catalogue why) after out out' = IsRefusedFile before name why × (out' ≡ out)
 IsCheckExit before name exit.ReadFault after out out' = Rose before.faults after.faults × (out' ≡ out)
-IsCheckExit before name exit.WriteFault after out out' = Rose out.faults out'.faults
+IsCheckExit before name exit.WriteFault after out out' = Rose out.faults out'.faults × IsToldInPart before name out out'
 IsCheckExit before name exit.TooLong after out out' = IsLong before.contents name FILE_LIMIT × (out' ≡ out)
-IsCheckExit before name exit.Memory after out out' = Unit {0}
+IsCheckExit before name exit.Memory after out out' = out' ≡ out
 IsCheckExit before name _ after out out' = ⊥

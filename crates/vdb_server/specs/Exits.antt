@@ -140,6 +140,15 @@ IsRunExit before catalogue stream exit.TooLong after out out' =
 IsRunExit before catalogue stream exit.Memory after out out' = Unit {0}
 IsRunExit before catalogue stream _ after out out' = ⊥
 
+-- No cause of a fault holds: no count of faults rises, the files are within the limit, and the catalogue is refused for
+-- no cause. Over files whose contents aren't told nobody can know that.
+pub record HasNoFault (before after : Files) (catalogue stream : List ℕ) (out out' : Held) : Type 0 where
+  pub read : Rose before.faults after.faults → ⊥
+  pub written : Rose out.faults out'.faults → ⊥
+  pub short_catalogue : IsLong before.contents catalogue FILE_LIMIT → ⊥
+  pub short_stream : IsLong before.contents stream FILE_LIMIT → ⊥
+  pub taken : (why : CatalogueFault) → IsRefusedFile before catalogue why → ⊥
+
 -- an exit that comes before the session is opened
 abbrev pub IfUnopened : Exit → Type 0 → Type 0
 IfUnopened exit.Usage fact = fact

@@ -16,6 +16,7 @@ use Rattle.vdb_server.specs.declared.exit.Exit.TheVariants as exit
 pub record IsReplayed (files : Files) (catalogue stream : List ℕ) (before after : Held) : Type 0 where
   pub opening : Opening
   pub checked : IsCheckedFile files catalogue opening.catalog opening.rows
+  pub model : opening.model ≡ opening.catalog.model
   pub bytes : List ℕ
   pub content : IsContent files.contents stream bytes
   pub replays : Replays opening bytes before.bytes after.bytes
@@ -24,6 +25,7 @@ pub record IsReplayed (files : Files) (catalogue stream : List ℕ) (before afte
 pub record IsReplayedWhole (files : Files) (catalogue stream : List ℕ) (before after : Held) : Type 0 where
   pub opening : Opening
   pub checked : IsCheckedFile files catalogue opening.catalog opening.rows
+  pub model : opening.model ≡ opening.catalog.model
   pub bytes : List ℕ
   pub content : IsContent files.contents stream bytes
   pub replays : ReplaysAll opening bytes before.bytes after.bytes

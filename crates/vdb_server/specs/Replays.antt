@@ -2,7 +2,7 @@
 use Rattle.std.specs.Prelude.{◌≡◌, ℕ, ◌≤◌, Bool, true, false, List, [], ◌++◌, length, take, Option}
 use Rattle.std.specs.Io.KnownBytes.{Appends}
 use Rattle.causes.specs.Faults.{Rose}
-use Rattle.session_poll.specs.Runs.{Did, IsRun, AllFit, end_of, eaten, events_of, replied, IsAt}
+use Rattle.session_poll.specs.Runs.{Did, IsRun, AllFit, end_of, bytes_read, events_of, replied, IsAt}
 use Rattle.session_poll.specs.Session.{is_over}
 use Rattle.session_poll.specs.Standing.{works}
 use Rattle.session_poll.specs.declared.opening.Opening.{Opening}
@@ -37,7 +37,7 @@ pub record Replays (opening : Opening) (stream : List ℕ) (before after : Optio
   pub is_run : IsRun opening run
   pub fits : AllFit 0 (events_of run)
   pub rest : List ℕ
-  pub input : stream ≡ eaten run ++ rest
+  pub input : stream ≡ bytes_read run ++ rest
   pub sent : List ℕ
   pub unsent : List ℕ
   pub output : replied run ≡ sent ++ unsent
@@ -50,7 +50,7 @@ pub record ReplaysAll (opening : Opening) (stream : List ℕ) (before after : Op
   pub is_run : IsRun opening run
   pub fits : AllFit 0 (events_of run)
   pub rest : List ℕ
-  pub input : stream ≡ eaten run ++ rest
+  pub input : stream ≡ bytes_read run ++ rest
   pub read_out : works (end_of run).phase rest ≡ false
   pub put : Appends before after (replied run)
 

@@ -2,9 +2,9 @@ ghost use Rattle.std.specs.Prelude.{◌≡◌, ◌≤◌, ◌↔◌, ◌⊎◌, 
 ghost use Rattle.causes.specs.Faults.{Rose};
 ghost use Rattle.causes.specs.Told.{IsContent};
 ghost use Rattle.vdb_server.specs.Sources.{IsLong, Lasts};
-ghost use Rattle.vdb_server.specs.Exits.{is_replay, is_check, catalogue_name, stream_name, IsReadable, IsRefusedFile, IfCatalogue, IfUnopened, IsReadExit, IsOpeningExit, IsRunExit, IsToolExit};
+ghost use Rattle.vdb_server.specs.Exits.{is_replay, is_check, catalogue_name, stream_name, IsReadable, IsRefusedFile, IfCatalogue, IfUnopened, IsReadExit, IsOpeningExit, HasNoFault, IsRunExit, IsToolExit};
 ghost use Rattle.vra_types.specs.Check.{Passes};
-ghost use Rattle.vdb_server.specs.Checks.{IsCheckedFile, IsTold, IsCheckExit, IsUnpassedExit};
+ghost use Rattle.vdb_server.specs.Checks.{IsCheckedFile, IsToldExit, IsCheckExit, IsUnpassedExit};
 ghost use Rattle.session_poll.specs.Servable.{IsServable};
 ghost use Rattle.vschema.specs.Formed.{IsFormed};
 ghost use Rattle.vdb_server.specs.Replayed.{IsReplayedExit};
@@ -32,20 +32,25 @@ pub fn run_tool<F: Source, O: Sink>(
     files: &mut F,
     out: &mut O,
 ) -> Exit
-    ensures done { is_replay (map string_bytes words.now) ≡ true → result ≡ exit.Done
-        → IsReadable (F.files files.old) (catalogue_name (map string_bytes words.now))
-        × IsReadable (F.files files.old) (stream_name (map string_bytes words.now)) }
+    // Where no cause of a fault holds, the command is done, but for want of memory.
+    ensures completes { is_replay (map string_bytes words.now) ≡ true
+        → HasNoFault (F.files files.old) (F.files files.new) (catalogue_name (map string_bytes words.now)) (stream_name (map string_bytes words.now)) (O.held out.old) (O.held out.new)
+        → (result ≡ exit.Done) ⊎ (result ≡ exit.Memory) }
     // What a replay put out begins the reply of a session to the stream, and is the whole of it where it is done.
     ensures replayed { is_replay (map string_bytes words.now) ≡ true
         → IsReplayedExit (F.files files.old) (catalogue_name (map string_bytes words.now)) (stream_name (map string_bytes words.now)) result (O.held out.old) (O.held out.new) }
-    ensures told { is_check (map string_bytes words.now) ≡ true → result ≡ exit.Done
-        → IsTold (F.files files.old) (catalogue_name (map string_bytes words.now)) (O.held out.old) (O.held out.new) }
+    // What a check put out is the line of a catalogue that passes, or begins it.
+    ensures told { is_check (map string_bytes words.now) ≡ true
+        → IsToldExit (F.files files.old) (catalogue_name (map string_bytes words.now)) result (O.held out.old) (O.held out.new) }
+    ensures checks { is_check (map string_bytes words.now) ≡ true
+        → HasNoFault (F.files files.old) (F.files files.new) (catalogue_name (map string_bytes words.now)) (catalogue_name (map string_bytes words.now)) (O.held out.old) (O.held out.new)
+        → (result ≡ exit.Done) ⊎ (result ≡ exit.Memory) }
     ensures usage { (result ≡ exit.Usage) ↔ ((is_replay (map string_bytes words.now) || is_check (map string_bytes words.now)) ≡ false) }
     ensures read { result ≡ exit.ReadFault → Rose (F.files files.old).faults (F.files files.new).faults }
     ensures write { result ≡ exit.WriteFault → Rose (O.held out.old).faults (O.held out.new).faults }
     ensures long { result ≡ exit.TooLong
         → IsLong (F.files files.old).contents (catalogue_name (map string_bytes words.now)) FILE_LIMIT
-        ⊎ IsLong (F.files files.old).contents (stream_name (map string_bytes words.now)) FILE_LIMIT }
+        ⊎ (is_replay (map string_bytes words.now) ≡ true) × IsLong (F.files files.old).contents (stream_name (map string_bytes words.now)) FILE_LIMIT }
     ensures catalogue { IfCatalogue result (IsRefusedFile (F.files files.old) (catalogue_name (map string_bytes words.now))) }
     ensures silent { IfUnopened result (O.held out.new ≡ O.held out.old) }
     ensures served { IsToolExit result }
@@ -86,8 +91,12 @@ fn check_name(words: &[String]) -> Option<&str>
 }
 
 /// Says on the sink what a catalogue has that passes its check.
+#[tactic(auto, using(crate::proofs::CompleteLaws::opening_completes, crate::proofs::CheckLaws::not_told))]
 fn run_check<F: Source, O: Sink>(alloc: Global, catalogue: &str, files: &mut F, out: &mut O) -> Exit
     ensures ends { IsCheckExit (F.files files.old) catalogue.now result (F.files files.new) (O.held out.old) (O.held out.new) }
+    ensures told { IsToldExit (F.files files.old) catalogue.now result (O.held out.old) (O.held out.new) }
+    ensures completes { HasNoFault (F.files files.old) (F.files files.new) catalogue.now catalogue.now (O.held out.old) (O.held out.new)
+        → (result ≡ exit.Done) ⊎ (result ≡ exit.Memory) }
     ensures lasts { Lasts (F.files files.old) (F.files files.new) }
 {
     let opening = match read_opening(alloc, catalogue, files) {
@@ -104,7 +113,7 @@ fn run_check<F: Source, O: Sink>(alloc: Global, catalogue: &str, files: &mut F, 
     }
 }
 
-#[tactic(auto, using(crate::proofs::ReplayedLaws::replayed, crate::proofs::ReplayedLaws::not_opened, crate::proofs::ReplayedLaws::not_read))]
+#[tactic(auto, using(crate::proofs::CompleteLaws::opening_completes, crate::proofs::CompleteLaws::read_completes, crate::proofs::CompleteLaws::replay_completes, crate::proofs::ReplayedLaws::replayed, crate::proofs::ReplayedLaws::not_opened, crate::proofs::ReplayedLaws::not_read))]
 fn run_replay<F: Source, O: Sink>(
     alloc: Global,
     catalogue: &str,
@@ -113,6 +122,8 @@ fn run_replay<F: Source, O: Sink>(
     out: &mut O,
 ) -> Exit
     ensures ends { IsRunExit (F.files files.old) catalogue.now stream.now result (F.files files.new) (O.held out.old) (O.held out.new) }
+    ensures completes { HasNoFault (F.files files.old) (F.files files.new) catalogue.now stream.now (O.held out.old) (O.held out.new)
+        → (result ≡ exit.Done) ⊎ (result ≡ exit.Memory) }
     ensures replayed { IsReplayedExit (F.files files.old) catalogue.now stream.now result (O.held out.old) (O.held out.new) }
     ensures lasts { Lasts (F.files files.old) (F.files files.new) }
 {
@@ -127,7 +138,7 @@ fn run_replay<F: Source, O: Sink>(
     replay(alloc, &opening, bytes.as_slice(), out)
 }
 
-/// Reads a catalogue and checks it, and lets go of its bytes.
+/// Reads a catalogue and checks it, and drops its bytes.
 fn read_opening<F: Source>(alloc: Global, name: &str, files: &mut F) -> Result<Opening, Exit>
     ensures readable { OnOk result (IsReadable (F.files files.old) name.now) }
     ensures checked { IfOk result (λ opening. IsCheckedFile (F.files files.old) name.now opening.catalog opening.rows) }

@@ -1,4 +1,5 @@
 use Rattle.std.proofs.Common.{◌≡◌, rules, subst, le_trans}
+use Rattle.session_poll.specs.Polls.{has_moved}
 use Rattle.session_poll.specs.Standing.{Says}
 use Rattle.session_poll.specs.declared.polled.Polled.TheVariants as polled
 use Rattle.vdb_server.proofs.ReplayLaws.{polled_on, closed_all, all_replays, replays_so_far}
@@ -8,7 +9,8 @@ pub returns-then-eq-clause-all : goal.returns-then-eq-clause-all
 returns-then-eq-clause-all g c = λ done.
     closed_all c.args.opening.now c.args.stream.now c.turns.fed (g.O.Sink.held c.args.out.now).bytes (g.O.Sink.held c.turns.out).bytes c.poll-polled.new.self
     (polled_on c.args.opening.now c.args.stream.now c.turns.fed (g.O.Sink.held c.args.out.now).bytes (g.O.Sink.held c.turns.out).bytes c.turns.session c.poll-polled.new.self c.poll-polled.result c.poll-polled.ensures c.turns.invariant.at)
-    (let closed : c.poll-polled.result ≡ polled.Closed = search rules in subst (λ r. Says r c.poll-polled.new.self) closed c.poll-polled.ensures.says)
+    (has_moved c.poll-polled.ensures.did)
+      (let closed : c.poll-polled.result ≡ polled.Closed = search rules in subst (λ r. Says (has_moved c.poll-polled.ensures.did) r c.poll-polled.new.self) closed c.poll-polled.ensures.says)
 
 pub returns-then-eq-clause-replays : goal.returns-then-eq-clause-replays
 returns-then-eq-clause-replays g c =

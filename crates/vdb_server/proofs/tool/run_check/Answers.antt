@@ -1,5 +1,5 @@
 use Rattle.std.proofs.Common.{◌≡◌}
-use Rattle.vdb_server.specs.Checks.{IsTold}
+use Rattle.vdb_server.specs.Checks.{IsTold, IsToldInPart}
 use Rattle.vdb_server.proofs.tool.run_check.Goals as goal
 
 pub returns-then-put_all-clause-ends : goal.returns-then-put_all-clause-ends
@@ -9,3 +9,27 @@ returns-then-put_all-clause-ends g c = record {
   checked = c.in-Ok.ensures.checked;
   put = rw (c.as_slice.ensures.value, c.in-Ok-line_of_passed.ensures) at c.if-put_all.ensures.put.0;
 }
+
+pub returns-then-put_all-clause-told : goal.returns-then-put_all-clause-told
+returns-then-put_all-clause-told g c = record {
+  catalog = c.in-Ok.opening.catalog;
+  rows = c.in-Ok.opening.rows;
+  checked = c.in-Ok.ensures.checked;
+  put = rw (c.as_slice.ensures.value, c.in-Ok-line_of_passed.ensures) at c.if-put_all.ensures.put.0;
+}
+
+pub returns-clause-told : goal.returns-clause-told
+returns-clause-told g c = record {
+  catalog = c.in-Ok.opening.catalog;
+  rows = c.in-Ok.opening.rows;
+  checked = c.in-Ok.ensures.checked;
+  put = rw (c.as_slice.ensures.value, c.in-Ok-line_of_passed.ensures) at c.if-put_all.ensures.put.0;
+}
+
+pub returns-clause-ends : goal.returns-clause-ends
+returns-clause-ends g c = (c.if-put_all.ensures.put.1, record {
+  catalog = c.in-Ok.opening.catalog;
+  rows = c.in-Ok.opening.rows;
+  checked = c.in-Ok.ensures.checked;
+  put = rw (c.as_slice.ensures.value, c.in-Ok-line_of_passed.ensures) at c.if-put_all.ensures.put.0;
+})
