@@ -1,0 +1,18 @@
+//! The statements of the variational relational algebra as values.
+//!
+//! The path of a type's file is part of this crate's interface: a specification above names it.
+#![tactic(auto)]
+
+mod cond;
+mod items;
+mod query;
+mod statement;
+mod write;
+
+pub use cond::{Cond, Op, Operand, cond_and, cond_choice, cond_not, cond_or};
+pub use items::{Item, Items};
+pub use query::{
+    Query, query_alias, query_choice, query_except, query_join, query_select, query_union,
+};
+pub use statement::Statement;
+pub use write::{SetItem, Write};
