@@ -1,5 +1,6 @@
-ghost use Rattle.std.specs.Prelude.{◌≡◌, IfOk};
+ghost use Rattle.std.specs.Prelude.{◌≡◌, ◌≤◌, length, IfOk};
 ghost use Rattle.vra_syntax.specs.Binding.{bound_statement};
+ghost use Rattle.vra_syntax.specs.Parameters.{greatest_param};
 
 use crate::bind_query::bound_query;
 use crate::bind_write::bound_write;
@@ -9,12 +10,14 @@ use std::alloc::Global;
 
 /// The statement with each parameter replaced by its value: number 1 by the first, and so on. A parameter that has no
 /// value stays as it is.
+#[tactic(auto, using(crate::proofs::BoundLaws::no_parameter_left))]
 pub fn bind_params(
     alloc: Global,
     statement: &Statement,
     values: &List<Value>,
 ) -> Result<Statement, Memory>
-    ensures { IfOk result (λ it. it ≡ bound_statement values.now statement.now) }
+    ensures bound { IfOk result (λ it. it ≡ bound_statement values.now statement.now) }
+    ensures whole { IfOk result (λ it. greatest_param statement.now ≤ length values.now → greatest_param it ≡ 0) }
 {
     bound_statement(alloc, statement, values.as_slice())
 }
