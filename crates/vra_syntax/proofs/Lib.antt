@@ -1,0 +1,3 @@
+mod BoundLaws
+mod ChainLaws
+mod UnboundLaws
