@@ -10,7 +10,7 @@ import answers
 TOP = os.path.dirname(os.path.dirname(os.path.abspath(__file__)))
 CRATE = os.path.join(TOP, "crates", "vdb_server")
 PROGRAM = os.path.join(CRATE, "out", "vdb_server")
-EMAIL = os.path.join(TOP, "examples", "email.vdb"), ["account", "message", "trail", "calendar"]
+EMAIL = os.path.relpath(os.path.join(TOP, "examples", "email.vdb")), ["account", "message", "trail", "calendar"]
 
 
 def command():
@@ -51,7 +51,7 @@ def main():
     if len(sys.argv) == 2:
         sys.exit("usage: ./demo [CATALOGUE TABLE..]")
     parameters, answered = replayed(catalogue, tables)
-    show(f"The session over {os.path.relpath(catalogue)} begins with", answers.parameter_lines(parameters))
+    show(f"The session over {catalogue} begins with", answers.parameter_lines(parameters))
     for table, answer in zip(tables, answered):
         show(f"{table};", answers.answer_lines(answer))
     for table in tables[len(answered):]:
