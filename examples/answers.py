@@ -110,12 +110,14 @@ def order(kind, cell):
 
 
 def configured(answer, variant):
-    """An answer's table in one variant: names, kinds and rows. There is none where no column is there."""
+    """An answer's table in one variant, its names, kinds and rows, or None where no column is there."""
     there = []
     for place, (field, kind) in enumerate(answer.fields[:-1]):
         name, condition = named(field)
         if holds(condition, variant):
             there.append((place, name, kind))
+    if not there:
+        return None
     rows = {tuple(row[place] for place, _, _ in there) for row in answer.rows if holds(row[-1], variant)}
     kinds = [kind for _, _, kind in there]
     rows = sorted(rows, key=lambda row: [order(kind, cell) for kind, cell in zip(kinds, row)])
@@ -144,8 +146,8 @@ def answer_lines(answer):
 
 def variant_lines(answer, variant):
     """An answer's table in one variant."""
-    heads, kinds, rows = configured(answer, variant)
-    return list(lines_of(heads, kinds, rows)) if heads else ["(absent)"]
+    table = configured(answer, variant)
+    return list(lines_of(*table)) if table else ["(absent)"]
 
 
 def parameter_lines(parameters):
