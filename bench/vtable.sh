@@ -45,7 +45,7 @@ fn model_of(alloc: Global) -> Result<Model, Memory> {
 /// One of twenty conditions.
 fn condition(alloc: Global, number: u64) -> Result<Expr, Memory> {
     let one = Expr::Feature((number % 10 + 1) as u8);
-    let other = Expr::Feature((number * 7 % 11 + 1) as u8);
+    let other = Expr::Feature((number.wrapping_mul(7) % 11 + 1) as u8);
     if number % 20 < 10 { and(alloc, one, other) } else { or(alloc, not(alloc, one)?, other) }
 }
 

@@ -3,7 +3,7 @@ use Rattle.std.proofs.Common.{◌≡◌, ◌∙◌, ℕ, ◌+◌, ◌≤◌, Boo
 use Rattle.feature_expr.specs.declared.expr.Expr.{Expr, fold-Expr, out-Expr, map-Expr}
 use Rattle.feature_expr.specs.declared.expr.Expr.TheFolds.{fold_out-Expr, fold-roll-Expr}
 use Rattle.feature_expr.specs.declared.expr.Expr.TheOpen.{Expr-F}
-use Rattle.feature_expr.specs.declared.expr.Expr.TheVariants.{rolls-And, rolls-False}
+use Rattle.feature_expr.specs.declared.expr.Expr.TheVariants.{rolls-And, rolls-False, rolls-True}
 use Rattle.feature_expr.specs.declared.expr.Expr as e
 use Rattle.feature_expr.specs.Expressions.{and_of, and_left, and_right, weight_of, weight_step}
 use Rattle.feature_expr.specs.Satisfaction.{satisfies, holds_at}
@@ -78,3 +78,10 @@ left_weighs l r (Expr-F.Or a b) = right_weighs l r (out-Expr r)
 
 pub and_weighs : (l r : Expr) → weight_of (and_of l r) ≤ weight_of l + weight_of r + 1
 and_weighs l r = left_weighs l r (out-Expr l)
+
+-- no expression weighs less than a constant
+pub weighs_true : (l : Expr) → weight_of e.True ≤ weight_of l
+weighs_true l =
+    let one : weight_of e.True ≡ 1 = ap weight_of (sym rolls-True) ∙ fold-roll-Expr ℕ weight_step Expr-F.True in
+    let least = weighs_one l in
+    omega (arith, one, least)

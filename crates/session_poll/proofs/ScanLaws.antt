@@ -2,7 +2,11 @@
 use Rattle.std.proofs.Common.{◌≡◌, ◌∙◌, ℕ, ◌+◌, ◌≤◌, ◌==◌, Bool, true, false, not, ◌&&◌, ◌||◌, List, [], ◌∷◌, map, filter, length, slice_get, Option, Some, None, if◌then◌else◌, All, suc, bytes_eq, refl, sym, ap, ap₂, subst, subst₂, arith, le_of_eq, true≢false, eq-eqb, ◌++◌, append_assoc, append-nil}
 use Rattle.std.proofs.lemmas.Bool.{eqb-true}
 use Rattle.std.proofs.lemmas.List.{length-map}
-use Rattle.std.proofs.lemmas.List.Sums.{AllPass-from_list_all}
+use Rattle.std.proofs.lemmas.List.Sums.{AllPass-from_list_all, sum_by-cons}
+use Rattle.std.proofs.lemmas.Slice.Eq.{bytes_eq-Decides}
+use Rattle.std.specs.Bool.{one_answer}
+use Rattle.feature_expr.specs.declared.expr.Expr.{Expr}
+use Rattle.feature_expr.specs.declared.expr.Expr as e
 use Rattle.std.proofs.lemmas.Option.{slice_get_within, get_or_from_slice_get}
 use Rattle.std.specs.List.{list_all, list_any}
 use Rattle.condition_sat.specs.Admitted.{IsAdmitted}
@@ -16,19 +20,22 @@ use Rattle.feature_expr.specs.declared.value.Value.{Value}
 use Rattle.plain_relation.specs.Relations.{relation_of, columns_of, SameRelation}
 use Rattle.plain_relation.specs.Relations as plain
 use Rattle.session_poll.specs.declared.opening.Opening.{Opening}
-use Rattle.session_poll.specs.Answers.{IsAnswer, row_count, row_weight, column_weight, rows_weigh, columns_weigh}
+use Rattle.session_poll.specs.Answers.{IsAnswer, row_count, row_weight, column_weight, columns_weigh}
 use Rattle.session_poll.specs.Scans.{is_of, scanned, scanned_column, scanned_row, scanned_rows}
 use Rattle.session_poll.specs.Servable.{IsServable}
-use Rattle.session_poll.proofs.AndLaws.{and_holds, and_weighs}
+use Rattle.session_poll.proofs.AndLaws.{and_holds, and_weighs, weighs_true}
 use Rattle.vschema.specs.declared.catalog.Column.{Column}
 use Rattle.vschema.specs.declared.catalog.OpeningRow.{OpeningRow}
 use Rattle.vschema.specs.declared.catalog.Table.{Table}
 use Rattle.vschema.specs.Formed.{distinct, column_names, has_distinct_columns, CellsFit, FitsTable, RowFits}
-use Rattle.vschema.specs.Gaps.{misses_value, columns_without, is_filled, is_filled_in, are_filled}
+use Rattle.vschema.specs.Gaps.{misses_value, columns_without, has_all_values, has_all_values_in, have_all_values}
 use Rattle.vschema.specs.Variants.{has_column, is_row_of, opening_at, opening_database, table_in}
 use Rattle.vschema.specs.Variants as variants
 use Rattle.vtable.specs.Answers.{IsAnswerAt, answer_at}
 use Rattle.vtable.specs.Answers as answers
+use Rattle.vtable.specs.Possible.{can_hold, always_holds}
+use Rattle.vtable.specs.TableForm.{rows_weight, same_column, columns_are_distinct, columns_staying, IsNormalOf}
+use Rattle.vtable.specs.declared.table.VColumn.{VColumn}
 use Rattle.vtable.specs.declared.table.VRow.{VRow}
 use Rattle.vtable.specs.declared.table.VTable.{VTable}
 
@@ -58,11 +65,11 @@ same_itself : (r : plain.Relation) → SameRelation r r
 same_itself r = record { columns = λ column. (λ x. x, λ x. x); rows = λ values. (λ x. x, λ x. x) }
 
 -- the same number of rows, of the same weight
-row_weighs : (number : ℕ) (row : OpeningRow) (rows : List OpeningRow) (of : Bool) → is_of number row ≡ of → rows_weigh (scanned_rows number rows) ≡ row_weight number rows → rows_weigh (scanned_rows number (row ∷ rows)) ≡ row_weight number (row ∷ rows)
-row_weighs number row rows true is rest = rw is (ap (λ n. weight_of row.cond + n) rest)
+row_weighs : (number : ℕ) (row : OpeningRow) (rows : List OpeningRow) (of : Bool) → is_of number row ≡ of → rows_weight (scanned_rows number rows) ≡ row_weight number rows → rows_weight (scanned_rows number (row ∷ rows)) ≡ row_weight number (row ∷ rows)
+row_weighs number row rows true is rest = rw is (sum_by-cons (λ (r : VRow). weight_of r.cond) (scanned_row row) (scanned_rows number rows) ∙ ap (λ n. weight_of row.cond + n) rest)
 row_weighs number row rows false is rest = rw is (rest ∙ omega arith)
 
-rows_weigh_same : (number : ℕ) (rows : List OpeningRow) → rows_weigh (scanned_rows number rows) ≡ row_weight number rows
+rows_weigh_same : (number : ℕ) (rows : List OpeningRow) → rows_weight (scanned_rows number rows) ≡ row_weight number rows
 rows_weigh_same number [] = refl
 rows_weigh_same number (row ∷ rows) = row_weighs number row rows (is_of number row) refl (rows_weigh_same number rows)
 
@@ -171,20 +178,20 @@ fill c table row (k ∷ ks) (None ∷ cells) holds fit filled =
 fill c table row (k ∷ ks) (Some value ∷ cells) holds fit filled =
     filled_some c table k ks value cells (has_column c table k) refl fit.0 (fill c table row ks cells holds fit.1 filled)
 
-filled_row : (c : List ℕ) (tables : List Table) (table : Table) (number : ℕ) (row : OpeningRow) → slice_get tables number ≡ Some table → is_of number row ≡ true → satisfies c row.cond ≡ true → RowFits tables row → is_filled c tables row ≡ true → answers.fits (map (variants.column_at c table) table.columns) row.cells ≡ true
+filled_row : (c : List ℕ) (tables : List Table) (table : Table) (number : ℕ) (row : OpeningRow) → slice_get tables number ≡ Some table → is_of number row ≡ true → satisfies c row.cond ≡ true → RowFits tables row → has_all_values c tables row ≡ true → answers.fits (map (variants.column_at c table) table.columns) row.cells ≡ true
 filled_row c tables table number row there of holds fit filled =
     fill c table row table.columns row.cells holds (row_fits tables table number row there of fit)
-    (not_true (list_any (misses_value c table row) (columns_without table.columns row.cells)) (subst (λ t. is_filled_in c t row ≡ true) (of_table tables table number row there of) filled))
+    (not_true (list_any (misses_value c table row) (columns_without table.columns row.cells)) (subst (λ t. has_all_values_in c t row ≡ true) (of_table tables table number row there of) filled))
 
 filled_one : (c : List ℕ) (places : List (Option plain.Column)) (number : ℕ) (row : OpeningRow) (rows : List OpeningRow) (of there : Bool) → is_of number row ≡ of → satisfies c row.cond ≡ there → (of ≡ true → there ≡ true → answers.fits places row.cells ≡ true) → list_all (answers.fits places) (opening_at c number rows) ≡ true → list_all (answers.fits places) (opening_at c number (row ∷ rows)) ≡ true
 filled_one c places number row rows false there is holds fit rest = rw is rest
 filled_one c places number row rows true false is holds fit rest = rw (is, holds) rest
 filled_one c places number row rows true true is holds fit rest = rw (is, holds) (rw (fit refl refl) rest)
 
-all_filled : (c : List ℕ) (tables : List Table) (table : Table) (number : ℕ) (rows : List OpeningRow) → slice_get tables number ≡ Some table → All (RowFits tables) rows → are_filled c tables rows ≡ true → list_all (answers.fits (map (variants.column_at c table) table.columns)) (opening_at c number rows) ≡ true
+all_filled : (c : List ℕ) (tables : List Table) (table : Table) (number : ℕ) (rows : List OpeningRow) → slice_get tables number ≡ Some table → All (RowFits tables) rows → have_all_values c tables rows ≡ true → list_all (answers.fits (map (variants.column_at c table) table.columns)) (opening_at c number rows) ≡ true
 all_filled c tables table number [] there fit filled = refl
 all_filled c tables table number (row ∷ rows) there fit filled =
-    let parts = both_true (is_filled c tables row) (are_filled c tables rows) filled in
+    let parts = both_true (has_all_values c tables row) (have_all_values c tables rows) filled in
     filled_one c (map (variants.column_at c table) table.columns) number row rows (is_of number row) (satisfies c row.cond) refl refl
     (λ of holds. filled_row c tables table number row there of holds (all_head (RowFits tables) row rows fit) parts.0)
     (all_filled c tables table number rows there (all_tail (RowFits tables) row rows fit) parts.1)
@@ -202,14 +209,69 @@ formed_there opening number table servable there c admitted =
 database_there : (c : List ℕ) (opening : Opening) (number : ℕ) (table : Table) → slice_get opening.catalog.tables number ≡ Some table → opening_database c opening.catalog opening.rows number ≡ variants.table_at c number table opening.rows
 database_there c opening number table there = ap (λ t. table_in c number t opening.rows) there
 
-pub scan_is_answer : (opening : Opening) (number : ℕ) (table : Table) → IsServable opening → slice_get opening.catalog.tables number ≡ Some table → IsAnswer opening number table (scanned number table opening.rows)
-scan_is_answer opening number table servable there = record {
-  formed = formed_there opening number table servable there;
-  right = λ c admitted. subst₂ SameRelation (sym (relation_same c number table opening.rows)) (sym (database_there c opening number table there)) (same_itself (variants.table_at c number table opening.rows));
-  rows = le_of_eq (length-map (filter (is_of number) opening.rows) scanned_row);
-  row_conditions = let same = rows_weigh_same number opening.rows in omega (arith, same);
-  column_conditions = columns_weigh_within table table.columns;
-}
+-- the scanned table may be brought into table form
+pub scan_answers : (opening : Opening) (number : ℕ) (table : Table) → IsServable opening → slice_get opening.catalog.tables number ≡ Some table → (c : List ℕ) → IsAdmitted opening.model c → IsAnswerAt c (scanned number table opening.rows)
+scan_answers opening number table servable there c admitted = formed_there opening number table servable there c (subst (λ m. IsAdmitted m c) servable.model admitted)
+
+bytes_swap : (one other : List ℕ) → bytes_eq one other ≡ bytes_eq other one
+bytes_swap one other =
+    let turned = bytes_eq-Decides other one in
+    one_answer (bytes_eq one other) (bytes_eq other one) (bytes_eq-Decides one other) ((λ is. sym (turned.0 is)), (λ is. turned.1 (sym is)))
+
+-- a name that isn't among the columns' is no other column's
+no_same_one : (table : Table) (k j : Column) (js : List Column) → bytes_eq j.name k.name ≡ false → list_any (same_column (scanned_column table k)) (map (scanned_column table) js) ≡ false → list_any (same_column (scanned_column table k)) (map (scanned_column table) (j ∷ js)) ≡ false
+no_same_one table k j js other rest =
+    let turned : bytes_eq k.name j.name ≡ false = bytes_swap k.name j.name ∙ other in
+    rw (turned, rest) refl
+
+no_same : (table : Table) (k : Column) (js : List Column) → among k.name (column_names js) ≡ false → list_any (same_column (scanned_column table k)) (map (scanned_column table) js) ≡ false
+no_same table k [] other = refl
+no_same table k (j ∷ js) other =
+    let parts = either_false (bytes_eq j.name k.name) (among k.name (column_names js)) other in
+    no_same_one table k j js parts.0 (no_same table k js parts.1)
+
+all_distinct : (table : Table) (ks : List Column) → distinct (column_names ks) ≡ true → columns_are_distinct (map (scanned_column table) ks) ≡ true
+all_distinct table [] is = refl
+all_distinct table (k ∷ ks) is =
+    let parts = both_true (not (among k.name (column_names ks))) (distinct (column_names ks)) is in
+    rw (no_same table k ks (not_true (among k.name (column_names ks)) parts.0), all_distinct table ks parts.1) refl
+
+pub scan_distinct : (opening : Opening) (number : ℕ) (table : Table) → IsServable opening → slice_get opening.catalog.tables number ≡ Some table → columns_are_distinct (map (scanned_column table) table.columns) ≡ true
+scan_distinct opening number table servable there =
+    all_distinct table table.columns (at_place has_distinct_columns opening.catalog.tables number table servable.formed.distinct_columns there)
+
+-- columns that stay weigh no more than before
+settled_weighs : (cond : Expr) (always : Bool) → weight_of (if always then e.True else cond) ≤ weight_of cond
+settled_weighs cond true = weighs_true cond
+settled_weighs cond false = le_of_eq refl
+
+one_staying : (model : Expr) (column : VColumn) (columns : List VColumn) (can : Bool) → can_hold model column.cond ≡ can → columns_weigh (columns_staying model columns) ≤ columns_weigh columns → columns_weigh (columns_staying model (column ∷ columns)) ≤ columns_weigh (column ∷ columns)
+one_staying model column columns true is rest = rw is (let one = settled_weighs column.cond (always_holds model column.cond) in omega (arith, one, rest))
+one_staying model column columns false is rest = rw is (omega (arith, rest))
+
+staying_weigh : (model : Expr) (columns : List VColumn) → columns_weigh (columns_staying model columns) ≤ columns_weigh columns
+staying_weigh model [] = omega arith
+staying_weigh model (column ∷ columns) = one_staying model column columns (can_hold model column.cond) refl (staying_weigh model columns)
+
+-- in table form it is a right answer
+pub normal_is_answer : (opening : Opening) (number : ℕ) (table : Table) (before after : VTable) → IsServable opening → slice_get opening.catalog.tables number ≡ Some table → before ≡ scanned number table opening.rows → IsNormalOf opening.model before after → IsAnswer opening number table after
+normal_is_answer opening number table before after servable there is normal =
+    let scan = scanned number table opening.rows in
+    let made : IsNormalOf opening.catalog.model scan after = subst₂ (λ m b. IsNormalOf m b after) servable.model is normal in
+    let fewer = made.fewer in
+    let lighter = made.lighter in
+    let count : length (scanned_rows number opening.rows) ≡ row_count number opening.rows = length-map (filter (is_of number) opening.rows) scanned_row in
+    let weight = rows_weigh_same number opening.rows in
+    let staying : columns_weigh after.columns ≤ columns_weigh (map (scanned_column table) table.columns) = subst (λ columns. columns_weigh columns ≤ columns_weigh (map (scanned_column table) table.columns)) (sym made.columns) (staying_weigh opening.catalog.model (map (scanned_column table) table.columns)) in
+    let within = columns_weigh_within table table.columns in
+    record {
+      form = made.form;
+      formed = made.answer;
+      right = λ c admitted. subst (SameRelation (answer_at c after)) (relation_same c number table opening.rows ∙ sym (database_there c opening number table there)) (made.same c admitted);
+      rows = omega (arith, fewer, count);
+      row_conditions = omega (arith, lighter, weight, count);
+      column_conditions = omega (arith, staying, within);
+    }
 
 -- a row more
 pub scanned_more : (number : ℕ) (row : OpeningRow) (rows : List OpeningRow) (old new all : List VRow) → old ++ scanned_rows number (row ∷ rows) ≡ all → new ≡ old ++ (if is_of number row then scanned_row row ∷ [] else []) → new ++ scanned_rows number rows ≡ all

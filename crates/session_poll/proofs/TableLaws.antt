@@ -2,7 +2,8 @@
 use Rattle.std.proofs.Common.{◌≡◌, ◌∙◌, ℕ, suc, ◌<◌, ◌≤◌, Bool, true, false, List, [], ◌∷◌, ◌++◌, length, slice_get, position, inl, inr, Option, Some, None, refl, sym, ap, subst, append-nil, MatchOption, arith}
 use Rattle.std.proofs.lemmas.List.Quantifiers.{position-Some}
 use Rattle.std.proofs.lemmas.Option.{slice_get-get_or}
-use Rattle.session_poll.proofs.ScanLaws.{scan_is_answer}
+use Rattle.session_poll.proofs.CourseLaws.{keeps_on}
+use Rattle.pg_messages.specs.declared.back.Back.{Back}
 use Rattle.feature_expr.specs.declared.expr.Expr.{Expr}
 use Rattle.session_poll.specs.declared.opening.Opening.{Opening}
 use Rattle.session_poll.specs.declared.refusal.Refusal.TheVariants as refusal
@@ -12,7 +13,7 @@ use Rattle.session_poll.specs.declared.state.Transaction.{Transaction}
 use Rattle.session_poll.specs.declared.state.Transaction.TheVariants as transactions
 use Rattle.session_poll.specs.AnswerMessages.{answer_messages, select_complete}
 use Rattle.session_poll.specs.Courses.{Course, goes, stops}
-use Rattle.session_poll.specs.Parts.{Keeps, KeepsState, Done}
+use Rattle.session_poll.specs.Parts.{Keeps, KeepsState, Done, PutsAnswer}
 use Rattle.session_poll.specs.Replies.{spelled}
 use Rattle.session_poll.specs.Runs.{AllFit, HasSnapshot}
 use Rattle.session_poll.specs.Scans.{scanned}
@@ -27,22 +28,22 @@ view_fits transactions.Idle has = tt
 view_fits (transactions.Implicit snapshot) has = (has, tt)
 
 -- the table's answer was put
-pub shows : (opening : Opening) (number : ℕ) (table : Table) (old new : Session) → IsServable opening → slice_get opening.catalog.tables number ≡ Some table → waiting_of new ≡ waiting_of old ++ spelled (answer_messages opening.catalog.features (scanned number table opening.rows)) → state_of new ≡ in_phase (phases.Query (select_complete (scanned number table opening.rows))) (state_of old) → Keeps old new → new.output.is_ready ≡ true → Done (ShowsTable opening number) old None new
-shows opening number table old new servable there put state keeps room =
-    let answer = scanned number table opening.rows in
-    let c : Course = goes (view_of old.transaction) (answer_messages opening.catalog.features answer) (in_phase (phases.Query (select_complete answer)) (state_of old)) in
+pub shows : (opening : Opening) (number : ℕ) (table : Table) (complete : Back) (old mid new : Session) → slice_get opening.catalog.tables number ≡ Some table → PutsAnswer opening number table complete old mid → KeepsState old mid → waiting_of new ≡ waiting_of mid → state_of new ≡ in_phase (phases.Query complete) (state_of mid) → Keeps mid new → new.output.is_ready ≡ true → Done (ShowsTable opening number) old None new
+shows opening number table complete old mid new there puts kept waiting state keeps room =
+    let c : Course = goes (view_of old.transaction) (answer_messages opening.catalog.features puts.answer) (in_phase (phases.Query (select_complete puts.answer)) (state_of old)) in
+    let after : state_of new ≡ c.after = state ∙ ap (in_phase (phases.Query complete)) kept.state ∙ ap (λ (b : Back). in_phase (phases.Query b) (state_of old)) puts.follows in
     record {
       course = c;
       part_is = inl (record {
         table = table;
         there = there;
-        answered = record { answer = answer; is_answer = scan_is_answer opening number table servable there; course = refl };
+        answered = record { answer = puts.answer; is_answer = puts.is_answer; course = refl };
       });
       refused_is = refl;
-      state = state;
-      put = put;
-      keeps = keeps;
-      fits = λ has. (view_fits old.transaction has, subst (HasSnapshot 0) (sym (ap (λ (x : State). x.transaction) state)) has);
+      state = after;
+      put = waiting ∙ puts.put;
+      keeps = keeps_on old mid new kept.input keeps;
+      fits = λ has. (view_fits old.transaction has, subst (HasSnapshot 0) (sym (ap (λ (x : State). x.transaction) after)) has);
       room = room;
     }
 

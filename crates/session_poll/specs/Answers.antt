@@ -10,6 +10,7 @@ use Rattle.vschema.specs.declared.catalog.Table.{Table}
 use Rattle.session_poll.specs.Scans.{is_of}
 use Rattle.vschema.specs.Variants.{opening_database}
 use Rattle.vtable.specs.Answers.{answer_at, IsAnswerAt}
+use Rattle.vtable.specs.TableForm.{rows_weight, IsTableForm}
 use Rattle.vtable.specs.declared.table.VColumn.{VColumn}
 use Rattle.vtable.specs.declared.table.VRow.{VRow}
 use Rattle.vtable.specs.declared.table.VTable.{VTable}
@@ -27,19 +28,16 @@ abbrev pub column_weight : ℕ → List Column → ℕ
 column_weight table [] = 0
 column_weight table (column ∷ columns) = table + weight_of column.cond + 1 + column_weight table columns
 
-abbrev pub rows_weigh : List VRow → ℕ
-rows_weigh [] = 0
-rows_weigh (row ∷ rows) = weight_of row.cond + rows_weigh rows
-
 abbrev pub columns_weigh : List VColumn → ℕ
 columns_weigh [] = 0
 columns_weigh (column ∷ columns) = weight_of column.cond + columns_weigh columns
 
--- In each admitted variant the answer is well formed, and is the variant's plain table. It has no more rows than the
--- table, and its conditions weigh no more than the table's do.
+-- The answer is in table form. In each admitted variant it is well formed, and is the variant's plain table. It has no
+-- more rows than the table, and its conditions weigh no more than the table's do.
 pub record IsAnswer (opening : Opening) (number : ℕ) (table : Table) (answer : VTable) : Type 0 where
+  pub form : IsTableForm opening.catalog.model answer
   pub formed : (c : List ℕ) → IsAdmitted opening.catalog.model c → IsAnswerAt c answer
   pub right : (c : List ℕ) → IsAdmitted opening.catalog.model c → SameRelation (answer_at c answer) (opening_database c opening.catalog opening.rows number)
   pub rows : length answer.rows ≤ row_count number opening.rows
-  pub row_conditions : rows_weigh answer.rows ≤ row_weight number opening.rows + row_count number opening.rows
+  pub row_conditions : rows_weight answer.rows ≤ row_weight number opening.rows + row_count number opening.rows
   pub column_conditions : columns_weigh answer.columns ≤ column_weight (weight_of table.cond) table.columns

@@ -5,6 +5,8 @@ use Rattle.session_poll.specs.declared.opening.Opening.{Opening}
 use Rattle.session_poll.specs.declared.refusal.Refusal.{Refusal}
 use Rattle.session_poll.specs.declared.refusal.Refusal.TheVariants as refusal
 use Rattle.session_poll.specs.declared.session.Session.{Session}
+use Rattle.session_poll.specs.Answers.{IsAnswer}
+use Rattle.session_poll.specs.AnswerMessages.{answer_messages, select_complete}
 use Rattle.session_poll.specs.Courses.{Course}
 use Rattle.session_poll.specs.Packets.{Eats}
 use Rattle.session_poll.specs.Queries.{Tells}
@@ -14,6 +16,8 @@ use Rattle.session_poll.specs.Session.{state_of, held_of, waiting_of, is_over}
 use Rattle.session_poll.specs.Standing.{works}
 use Rattle.session_poll.specs.State.{State, ready, ended}
 use Rattle.session_poll.specs.Steps.{Step}
+use Rattle.vschema.specs.declared.catalog.Table.{Table}
+use Rattle.vtable.specs.declared.table.VTable.{VTable}
 
 -- the input stays
 pub record Keeps (old new : Session) : Type 0 where
@@ -117,3 +121,10 @@ pub record Idles (old new : Session) : Type 0 where
 abbrev pub Moves : Opening → Session → Bool → Session → Type 0
 Moves opening old true new = Moved opening old new
 Moves opening old false new = Idles old new
+
+-- an answer to a table was put, and this is to follow it
+pub record PutsAnswer (opening : Opening) (number : ℕ) (table : Table) (complete : Back) (old new : Session) : Type 0 where
+  pub answer : VTable
+  pub is_answer : IsAnswer opening number table answer
+  pub follows : complete ≡ select_complete answer
+  pub put : waiting_of new ≡ waiting_of old ++ spelled (answer_messages opening.catalog.features answer)

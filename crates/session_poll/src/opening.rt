@@ -1,14 +1,17 @@
 ghost use Rattle.std.specs.Prelude.{◌≡◌, ◌<◌, ◌^◌, length, slice_get, Some, None, IfSome, IfNone};
 ghost use Rattle.session_poll.specs.Tables.{number_of};
 
+use condition_sat::Model;
 use feature_expr::{List, Name};
 use vschema::{Catalog, OpeningRow, Table};
 
-/// What a session answers from, as long as nothing is written: a catalogue and its opening rows.
+/// What a session answers from, as long as nothing is written: a catalogue, its opening rows, and its feature model,
+/// which the check of the catalogue gave.
 #[derive(Drop)]
 pub struct Opening {
     pub catalog: Catalog,
     pub rows: List<OpeningRow>,
+    pub model: Model,
 }
 
 impl Opening {

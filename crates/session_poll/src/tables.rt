@@ -1,10 +1,8 @@
 //! The statement that is a table's name.
 
 ghost use Rattle.std.specs.Prelude.{◌≡◌, ◌++◌, true, slice_get, Some, OnErr, IfOk};
-ghost use Rattle.session_poll.specs.AnswerMessages as spelling;
-ghost use Rattle.session_poll.specs.Parts.{Done, KeepsState};
-ghost use Rattle.session_poll.specs.Replies.{spelled};
-ghost use Rattle.session_poll.specs.Scans.{scanned};
+ghost use Rattle.session_poll.specs.Answers.{IsAnswer};
+ghost use Rattle.session_poll.specs.Parts.{Done, KeepsState, PutsAnswer};
 ghost use Rattle.session_poll.specs.Servable.{IsServable};
 ghost use Rattle.session_poll.specs.Tables.{AnswersTable, ShowsTable};
 
@@ -16,7 +14,9 @@ use crate::session::Session;
 use crate::state::Phase;
 use feature_expr::{Memory, Name};
 use pg_messages::Back;
+use std::alloc::Global;
 use vschema::Table;
+use vtable::{OutTable, normal};
 
 impl Session {
     /// Answers the table with this name, or refuses the name.
@@ -48,23 +48,42 @@ impl Session {
         }
     }
 
-    /// Puts the description and the rows of a table, and answers the CommandComplete that is to follow them.
+    /// Puts the answer to a table, and answers the CommandComplete that is to follow it.
     fn put_table(&mut self, number: u32, table: &Table, opening: &Opening) -> Result<Back, Memory>
-        requires { self.old.output.is_ready ≡ true }
-        ensures ok { IfOk result (λ complete. let answer = scanned number table.now opening.now.rows in (complete ≡ spelling.select_complete answer)
-            × (self.new.output.bytes ≡ self.old.output.bytes ++ spelled (spelling.answer_messages opening.now.catalog.features answer))) }
+        requires ready { self.old.output.is_ready ≡ true }
+        requires servable { IsServable opening.now }
+        requires there { slice_get opening.now.catalog.tables number ≡ Some table.now }
+        ensures ok { IfOk result (λ complete. PutsAnswer opening.now number table.now complete self.old self.new) }
         ensures err { OnErr result (self.new.output.bytes ≡ self.old.output.bytes) }
         ensures ready { self.new.output.is_ready ≡ true }
         ensures state { KeepsState self.old self.new }
     {
-        let answer = scan(self.alloc, number, table, opening.rows.as_slice())?;
-        let complete = select_complete(self.alloc, &answer)?;
+        let answer = table_answer(self.alloc, number, table, opening)?;
+        let answer = answer.table();
+        let complete = select_complete(self.alloc, answer)?;
         put_answer(
             self.alloc,
-            &answer,
+            answer,
             &opening.catalog.features,
             &mut self.output,
         )?;
         Ok(complete)
     }
+}
+
+/// The answer to a table with this number, in table form.
+#[tactic(auto, using(crate::proofs::ScanLaws::scan_distinct, crate::proofs::ScanLaws::scan_answers, crate::proofs::ScanLaws::normal_is_answer))]
+fn table_answer(
+    alloc: Global,
+    number: u32,
+    table: &Table,
+    opening: &Opening,
+) -> Result<OutTable, Memory>
+    requires servable { IsServable opening.now }
+    requires there { slice_get opening.now.catalog.tables number ≡ Some table.now }
+    ensures { IfOk result (λ out. IsAnswer opening.now number table.now out) }
+{
+    let scanned = scan(alloc, number, table, opening.rows.as_slice())?;
+    let answer = normal(alloc, &opening.model, scanned)?;
+    Ok(answer)
 }

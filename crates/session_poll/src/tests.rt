@@ -18,8 +18,12 @@ fn opening(alloc: Global) -> Result<Opening, Fail>
     ensures { IfOk result IsServable }
 {
     let (catalog, rows) = parse_catalog(alloc, CATALOGUE)?;
-    let _model = check_catalog(alloc, &catalog, &rows)?;
-    Ok(Opening { catalog, rows })
+    let model = check_catalog(alloc, &catalog, &rows)?;
+    Ok(Opening {
+        catalog,
+        rows,
+        model,
+    })
 }
 
 /// What a session answers to a stream that it is fed in pieces of this size.

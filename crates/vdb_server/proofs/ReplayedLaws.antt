@@ -4,6 +4,7 @@ use Rattle.causes.specs.Told.{IsContent}
 use Rattle.session_poll.specs.Servable.{IsServable}
 use Rattle.session_poll.specs.declared.opening.Opening.{Opening}
 use Rattle.vschema.specs.Formed.{IsFormed}
+use Rattle.vra_types.specs.Check.{Passes}
 use Rattle.vdb_server.specs.Checks.{IsCheckedFile}
 use Rattle.vdb_server.specs.Exits.{IsOpeningExit, IsReadExit}
 use Rattle.vdb_server.specs.Replays.{IsReplayExit, Replays, ReplaysAll}
@@ -14,8 +15,8 @@ use Rattle.vdb_server.specs.declared.exit.Exit.{Exit}
 use Rattle.vdb_server.specs.declared.exit.Exit.TheVariants as exit
 
 -- a session may be opened over a catalogue that was read and passed its check
-pub servable : (files : Files) (name : List ℕ) (opening : Opening) → IsFormed opening.catalog opening.rows → IsCheckedFile files name opening.catalog opening.rows → IsServable opening
-servable files name opening formed checked = record { formed = formed; filled = checked.passes.no_gaps.values }
+pub servable : (opening : Opening) → opening.model ≡ opening.catalog.model → IsFormed opening.catalog opening.rows → Passes opening.catalog opening.rows → IsServable opening
+servable opening model formed passes = record { model = model; formed = formed; filled = passes.no_gaps.values }
 
 pub replayed : (files : Files) (catalogue stream : List ℕ) (opening : Opening) (bytes : List ℕ) (result : Exit) (before after : Held) → IsCheckedFile files catalogue opening.catalog opening.rows → IsContent files.contents stream bytes → IsReplayExit result before after → Replays opening bytes before.bytes after.bytes → (result ≡ exit.Done → ReplaysAll opening bytes before.bytes after.bytes) → IsReplayedExit files catalogue stream result before after
 replayed files catalogue stream opening bytes exit.Done before after checked content ends begun all =

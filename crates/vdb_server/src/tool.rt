@@ -151,7 +151,11 @@ fn checked_opening(alloc: Global, catalog: Catalog, rows: List<OpeningRow>) -> R
     ensures refused { IfErr result (λ exit. IsUnpassedExit exit catalog rows) }
 {
     match check_catalog(alloc, &catalog, &rows) {
-        Ok(_model) => Ok(Opening { catalog, rows }),
+        Ok(model) => Ok(Opening {
+            catalog,
+            rows,
+            model,
+        }),
         Err(CheckRefused::Memory) => Err(Exit::Memory),
         Err(why) => Err(Exit::Catalogue(CatalogueFault::Check(why, catalog))),
     }

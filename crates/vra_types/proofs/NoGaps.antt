@@ -7,7 +7,7 @@ use Rattle.vschema.specs.declared.catalog.Catalog.{Catalog}
 use Rattle.vschema.specs.declared.catalog.Column.{Column}
 use Rattle.vschema.specs.declared.catalog.OpeningRow.{OpeningRow}
 use Rattle.vschema.specs.declared.catalog.Table.{Table}
-use Rattle.vschema.specs.Gaps.{lacks_columns, misses_value, columns_without, is_filled_in, are_filled}
+use Rattle.vschema.specs.Gaps.{lacks_columns, misses_value, columns_without, has_all_values_in, have_all_values}
 use Rattle.vra_types.specs.declared.refused.CheckRefused.{CheckRefused}
 use Rattle.vra_types.specs.declared.refused.CheckRefused.TheVariants as refused
 use Rattle.vra_types.specs.Check.{Gap, TableGap, RowGap, row_gaps, row_gaps_in, gaps_of, AreNowhere, ShowsFirst, RefusesGaps, Refuses, HasVariant, Passes}
@@ -22,7 +22,7 @@ module _ (model : Expr) (c : List ℕ) (admitted : IsAdmitted model c) where
   no_column table row [] none = refl
   no_column table row (column ∷ columns) none = rw (none.0.never c admitted) (no_column table row columns none.1)
 
-  row_filled : (table : Option Table) (row : OpeningRow) → AreNowhere model (row_gaps_in table row) → is_filled_in c table row ≡ true
+  row_filled : (table : Option Table) (row : OpeningRow) → AreNowhere model (row_gaps_in table row) → has_all_values_in c table row ≡ true
   row_filled None row none = refl
   row_filled (Some table) row none = ap not (no_column table row (columns_without table.columns row.cells) none)
 
@@ -34,7 +34,7 @@ rest_nowhere : (model : Expr) (front rest : List Gap) → AreNowhere model (fron
 rest_nowhere model [] rest none = none
 rest_nowhere model (gap ∷ front) rest none = rest_nowhere model front rest none.1
 
-rows_filled : (model : Expr) (c : List ℕ) → IsAdmitted model c → (tables : List Table) (rows : List OpeningRow) → AreNowhere model (flat_map (row_gaps tables) rows) → are_filled c tables rows ≡ true
+rows_filled : (model : Expr) (c : List ℕ) → IsAdmitted model c → (tables : List Table) (rows : List OpeningRow) → AreNowhere model (flat_map (row_gaps tables) rows) → have_all_values c tables rows ≡ true
 rows_filled model c admitted tables [] none = refl
 rows_filled model c admitted tables (row ∷ rows) none =
     rw (row_filled model c admitted (slice_get tables row.table) row (front_nowhere model (row_gaps tables row) (flat_map (row_gaps tables) rows) none))

@@ -7,7 +7,7 @@ use Rattle.vschema.specs.declared.catalog.Catalog.{Catalog}
 use Rattle.vschema.specs.declared.catalog.Column.{Column}
 use Rattle.vschema.specs.declared.catalog.OpeningRow.{OpeningRow}
 use Rattle.vschema.specs.declared.catalog.Table.{Table}
-use Rattle.vschema.specs.Gaps.{lacks_columns, misses_value, columns_without, have_columns, are_filled}
+use Rattle.vschema.specs.Gaps.{lacks_columns, misses_value, columns_without, have_columns, have_all_values}
 use Rattle.vra_types.specs.declared.refused.CheckRefused.{CheckRefused}
 use Rattle.vra_types.specs.declared.refused.CheckRefused.TheVariants as refused
 
@@ -84,7 +84,7 @@ Refuses catalog rows why = RefusesGaps catalog.model (gaps_of catalog rows) why
 -- is there has a value in every column that is there.
 pub record HasNoGaps (model : Expr) (catalog : Catalog) (rows : List OpeningRow) : Type 0 where
   pub columns : (c : List ℕ) → IsAdmitted model c → have_columns c catalog.tables ≡ true
-  pub values : (c : List ℕ) → IsAdmitted model c → are_filled c catalog.tables rows ≡ true
+  pub values : (c : List ℕ) → IsAdmitted model c → have_all_values c catalog.tables rows ≡ true
 
 -- a catalogue and opening rows that pass their check
 pub record Passes (catalog : Catalog) (rows : List OpeningRow) : Type 0 where

@@ -1,5 +1,5 @@
 -- What a file spells is formed.
-use Rattle.std.proofs.Common.{Bool, true, false, not, ◌&&◌, ◌||◌, ◌≡◌, ◌∙◌, sym, ap, ◌<◌, ◌≤◌, ◌^◌, ℕ, zero, suc, ◌+◌, List, [], ◌∷◌, ◌++◌, length, map, Option, Some, None, slice_get, slice_index_or, set, ◌⊎◌, inl, inr, nat_lt, nat_le, position, refl, rules, arith}
+use Rattle.std.proofs.Common.{Bool, true, false, not, ◌&&◌, ◌||◌, ◌≡◌, ◌∙◌, sym, ap, ◌<◌, ◌≤◌, ℕ, zero, suc, ◌+◌, List, [], ◌∷◌, ◌++◌, length, map, Option, Some, None, slice_get, slice_index_or, set, ◌⊎◌, inl, inr, nat_lt, nat_le, position, refl, arith}
 use Rattle.std.specs.List.{All, list_any, list_all, position_from}
 use Rattle.std.specs.Str.{bytes_eq}
 use Rattle.std.specs.Char.{to_ascii_lowercase, is_ascii_alphabetic, is_ascii_alphanumeric}
@@ -13,16 +13,16 @@ use Rattle.std.proofs.lemmas.Str.Ascii.{lowercase-lowercase, lowercase_is}
 use Rattle.feature_expr.specs.Names.{starts_word, continues_word, is_word_of, is_reserved_word, is_name_of, among}
 use Rattle.feature_expr.specs.Value.{kind_of}
 use Rattle.feature_expr.specs.Tokens.{bytes_of}
-use Rattle.feature_expr.specs.ExprGrammar.{Part, Disjunction, Conjunction, Negation, feature_of, feature_at, Spells, one_conjunction, disjunction, one_negation, conjunction, negation, truth, falsehood, feature, brackets}
+use Rattle.feature_expr.specs.ExprGrammar.{Part, Disjunction, Conjunction, Negation, feature_of, Spells, one_conjunction, disjunction, one_negation, conjunction, negation, truth, falsehood, feature, brackets}
 use Rattle.feature_expr.specs.declared.expr.Expr.{Expr, fold-roll-Expr}
 use Rattle.feature_expr.specs.declared.expr.Expr as e
 use Rattle.feature_expr.specs.declared.expr.Expr.TheOpen.{Expr-F}
 use Rattle.feature_expr.specs.declared.features.TheConstants.{RESERVED}
 use Rattle.feature_expr.specs.declared.token.Token.{Token}
 use Rattle.feature_expr.specs.declared.value.Value.{Value}
-use Rattle.vschema.specs.Formed.{below_step, features_below, distinct, table_names, column_names, has_names, column_features_below, table_features_below, row_features_below, has_distinct_columns, CellFits, CellsFit, FitsTable, RowFits, IsFormed}
+use Rattle.vschema.specs.Formed.{below_step, features_below, distinct, table_names, column_names, has_names, column_features_below, table_features_below, row_features_below, has_distinct_columns, CellsFit, FitsTable, RowFits, IsFormed}
 use Rattle.vschema.specs.Words.{name_at, lower, folded_at}
-use Rattle.vschema.specs.Spelling.{column_place, table_place, IsExpression, IsModel, no_model, some_model, IsWhen, no_when, some_when, IsTail, IsColumn, ColumnsBefore, no_column_yet, another_column, AreColumns, IsTable, no_cells, IsCell, CellsBefore, no_cell_yet, another_cell, AreCells, IsRow, IsEntry, tables_with, rows_with, EntriesTo, no_entry_yet, another_entry, SpellCatalogue}
+use Rattle.vschema.specs.Spelling.{column_place, table_place, IsModel, no_model, some_model, IsWhen, no_when, some_when, IsColumn, ColumnsBefore, no_column_yet, another_column, AreColumns, IsTable, no_cells, CellsBefore, no_cell_yet, another_cell, AreCells, IsRow, IsEntry, tables_with, rows_with, EntriesTo, no_entry_yet, another_entry, SpellCatalogue}
 use Rattle.vschema.specs.declared.catalog.Catalog.{Catalog}
 use Rattle.vschema.specs.declared.catalog.Column.{Column}
 use Rattle.vschema.specs.declared.catalog.OpeningRow.{OpeningRow}

@@ -1,5 +1,5 @@
 -- Up to which token a file goes on the grammar, a step at a time.
-use Rattle.std.proofs.Common.{Bool, true, false, ◌≡◌, ◌∙◌, sym, ◌<◌, ◌≤◌, ◌==◌, ◌&&◌, ℕ, ◌+◌, List, [], ◌∷◌, ◌++◌, length, Option, Some, None, map, subst, slice_get, is_some, codes, if◌then◌else◌, inl, inr, refl, arith}
+use Rattle.std.proofs.Common.{Bool, true, false, ◌≡◌, ◌∙◌, sym, ◌<◌, ◌==◌, ℕ, ◌+◌, List, [], ◌∷◌, ◌++◌, length, Option, Some, None, map, subst, slice_get, is_some, codes, inl, inr, refl, arith}
 use Rattle.std.specs.Str.{bytes_eq}
 use Rattle.std.specs.Char.{to_ascii_lowercase}
 use Rattle.std.proofs.lemmas.Option.{slice_get_past}
@@ -8,9 +8,9 @@ use Rattle.std.proofs.lemmas.Bool.Decides.{nat_tests}
 use Rattle.std.proofs.lemmas.Slice.Eq.{bytes_eq-Decides}
 use Rattle.feature_expr.specs.Names.{same_word_as}
 use Rattle.feature_expr.specs.Tokens.{bytes_of, is_word, is_mark, is_word_of_text, is_mark_of_text}
-use Rattle.feature_expr.specs.Grammar.{Symbol, Terminal, Nonterminal, AnyOf, Matches, NeverFirst, IsFree, Leads, Reaches, FaultAt}
+use Rattle.feature_expr.specs.Grammar.{Terminal, Nonterminal, AnyOf, IsFree, FaultAt}
 use Rattle.feature_expr.specs.GrammarLaws.{here, open_part, close_part, open_sign, close_sign}
-use Rattle.feature_expr.specs.ExprGrammar.{Part, Mark, Own, Foreign, Outer, Disjunction, signs_of, forms, fits, sign_of_word, sign_at, IsRefused, sign_of_token, sign_of_kind, sign_of_mark}
+use Rattle.feature_expr.specs.ExprGrammar.{Part, Mark, Foreign, Outer, Disjunction, signs_of, forms, fits, sign_of_word, sign_at, IsRefused, sign_of_token, sign_of_kind, sign_of_mark}
 use Rattle.feature_expr.specs.declared.expr.Expr.{Expr}
 use Rattle.feature_expr.specs.declared.parse.Fault.{Fault}
 use Rattle.feature_expr.specs.declared.parse.Fault.TheVariants as expr_fault
@@ -19,10 +19,8 @@ use Rattle.feature_expr.specs.declared.token.TokenKind.{TokenKind}
 use Rattle.feature_expr.specs.declared.token.TokenKind.TheVariants as token_kind
 use Rattle.vschema.specs.Words.{stands, name_of, name_of_kind, name_at}
 use Rattle.vschema.specs.Spelling.{IsExpression}
-use Rattle.vschema.specs.Faults.{ExpressionFault, fault_of}
+use Rattle.vschema.specs.Faults.{fault_of}
 use Rattle.vschema.specs.CatalogueGrammar.{Form, fitting, outer, Expression, Goes, IsViable, IsFirstFault, IsViableFault, FEATURES, Names, ModelLine, Entries}
-use Rattle.vschema.specs.declared.fault.CatalogFault.{CatalogFault}
-use Rattle.vschema.specs.declared.fault.CatalogFault.TheVariants as fault
 use Rattle.vschema.specs.declared.parse.TheConstants.{NESTING_LIMIT}
 use Rattle.vschema.specs.declared.words.Sign.{Sign}
 use Rattle.vschema.specs.declared.words.Sign.TheVariants as sign

@@ -1,5 +1,5 @@
 -- The grammar of a catalogue's file, round that of feature expressions, and up to which token a file goes on it.
-use Rattle.std.specs.Prelude.{Bool, false, ◌≡◌, ℕ, ◌+◌, ◌<◌, ◌==◌, if◌then◌else◌, List, [], ◌∷◌, length, Option, Some, is_some}
+use Rattle.std.specs.Prelude.{Bool, false, ℕ, ◌+◌, ◌<◌, ◌==◌, if◌then◌else◌, List, [], ◌∷◌, length, is_some}
 use Rattle.feature_expr.specs.Grammar.{Symbol, Terminal, Nonterminal, Matches}
 use Rattle.feature_expr.specs.ExprGrammar.{Part, Mark, Outer, Foreign, Disjunction, forms, fits}
 use Rattle.feature_expr.specs.declared.token.Token.{Token}

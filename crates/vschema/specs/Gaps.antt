@@ -35,18 +35,18 @@ columns_without (column ∷ columns) (Some value ∷ cells) = columns_without co
 abbrev pub misses_value : List ℕ → Table → OpeningRow → Column → Bool
 misses_value c table row column = has_row c table row && is_column_there c column
 
--- whether a row misses no value
-abbrev pub is_filled_in : List ℕ → Option Table → OpeningRow → Bool
-is_filled_in c None row = true
-is_filled_in c (Some table) row = not (list_any (misses_value c table row) (columns_without table.columns row.cells))
+-- whether a row, where it is there, has a value in each column that is there
+abbrev pub has_all_values_in : List ℕ → Option Table → OpeningRow → Bool
+has_all_values_in c None row = true
+has_all_values_in c (Some table) row = not (list_any (misses_value c table row) (columns_without table.columns row.cells))
 
-abbrev pub is_filled : List ℕ → List Table → OpeningRow → Bool
-is_filled c tables row = is_filled_in c (slice_get tables row.table) row
+abbrev pub has_all_values : List ℕ → List Table → OpeningRow → Bool
+has_all_values c tables row = has_all_values_in c (slice_get tables row.table) row
 
 -- whether each table that is there has a column
 abbrev pub have_columns : List ℕ → List Table → Bool
 have_columns c tables = not (list_any (lacks_columns c) tables)
 
 -- whether each row that is there has a value in each column that is there
-abbrev pub are_filled : List ℕ → List Table → List OpeningRow → Bool
-are_filled c tables rows = list_all (is_filled c tables) rows
+abbrev pub have_all_values : List ℕ → List Table → List OpeningRow → Bool
+have_all_values c tables rows = list_all (has_all_values c tables) rows

@@ -1,13 +1,12 @@
 -- The order of cells tells them apart.
-use Rattle.std.proofs.Common.{◌≡◌, ℕ, Bool, true, false, List, [], ◌∷◌, Option, Some, None, refl, sym, ◌∙◌, ap, ap₂, subst, rules}
+use Rattle.std.proofs.Common.{◌≡◌, true, false, List, [], ◌∷◌, Option, Some, None, refl, sym, ◌∙◌, ap, ap₂, rules}
 use Rattle.std.specs.Ordering.{is_lt, is_eq, ordering_then, ordering_reverse}
 use Rattle.std.specs.declared.cmp.Ordering.{Ordering}
 use Rattle.std.specs.declared.cmp.Ordering.TheVariants.{Less, Equal, Greater}
 use Rattle.std.specs.Option.{option_cmp}
-use Rattle.std.specs.Cmp.Lexicographic.{slice_cmp, options_total}
+use Rattle.std.specs.Cmp.Lexicographic.{options_total}
 use Rattle.std.proofs.lemmas.Cmp.{lists_total}
 use Rattle.std.proofs.lemmas.Map.Lookups.{exact_signed, exact_bytes}
-use Rattle.feature_expr.specs.contracts.value.ValueOrd.TheImpl.{cmp-value}
 use Rattle.feature_expr.specs.contracts.value.ValueOrd.TheImpl.Laws.{total-law}
 use Rattle.feature_expr.specs.declared.value.Value.{Value}
 use Rattle.feature_expr.specs.declared.value.Value.TheVariants as value

@@ -1,9 +1,9 @@
 -- A table in one variant: its columns and rows, each once.
-use Rattle.std.proofs.Common.{◌≡◌, ℕ, ◌+◌, ◌<◌, ◌≤◌, ◌==◌, ◌&&◌, ◌||◌, Bool, true, false, not, if◌then◌else◌, List, [], ◌∷◌, ◌++◌, length, map, take, get_or, Option, Some, None, refl, sym, ◌∙◌, ap, ap₂, subst, rules, arith, ◌⊎◌, inl, inr, append_assoc}
+use Rattle.std.proofs.Common.{◌≡◌, ℕ, ◌+◌, ◌<◌, ◌==◌, ◌&&◌, ◌||◌, Bool, true, false, List, [], ◌∷◌, ◌++◌, length, map, take, get_or, Option, Some, None, refl, sym, ◌∙◌, ap, ap₂, rules, inl, inr}
 use Rattle.std.specs.Prelude.{is_some}
 use Rattle.std.specs.List.{list_any, list_all, filter_map, filter, cons_option}
 use Rattle.std.specs.List.Sorted.{IsPermutation}
-use Rattle.std.specs.Option.{option_to_list, option_cmp}
+use Rattle.std.specs.Option.{option_to_list}
 use Rattle.std.specs.Ordering.{is_lt, ordering_then}
 use Rattle.std.specs.Cmp.Lexicographic.{slice_cmp}
 use Rattle.std.proofs.lemmas.List.{take_more, map-append}
@@ -21,7 +21,7 @@ use Rattle.vtable.specs.declared.plain.PlainColumn.{PlainColumn}
 use Rattle.vtable.specs.declared.table.VColumn.{VColumn}
 use Rattle.vtable.specs.declared.table.VRow.{VRow}
 use Rattle.vtable.specs.declared.table.VTable.{VTable}
-use Rattle.vtable.specs.Answers.{column_at, fits, rows_at, places_at, IsAnswerAt}
+use Rattle.vtable.specs.Answers.{column_at, fits, IsAnswerAt}
 use Rattle.vtable.specs.TableForm.{cells_cmp, value_cmp, same_cells}
 use Rattle.vtable.specs.Configured.{plain_column, values_of, same_values, values_ascend, IsPresent, fate_at, row_there, some_values, group_values}
 use Rattle.vtable.specs.Passes.{cells_by, table_row, is_in_order, groups_after, group_of, with_cond}

@@ -1,28 +1,22 @@
 -- Rows and columns that are cut to what can be seen together.
-use Rattle.std.proofs.Common.{◌≡◌, ℕ, ◌+◌, ◌<◌, ◌≤◌, ◌==◌, ◌&&◌, ◌||◌, Bool, true, false, not, if◌then◌else◌, List, [], ◌∷◌, ◌++◌, length, map, Option, Some, None, refl, sym, ◌∙◌, ap, ap₂, subst, rules, arith, ◌⊎◌, inl, inr}
-use Rattle.std.specs.List.{list_any, list_all, filter_map, cons_option, filter}
+use Rattle.std.proofs.Common.{◌≡◌, ℕ, ◌&&◌, ◌||◌, Bool, true, false, not, if◌then◌else◌, List, [], ◌∷◌, ◌++◌, map, Option, Some, None, refl, sym, ◌∙◌, ap, ap₂, subst, rules, ◌⊎◌, inl, inr}
+use Rattle.std.specs.List.{list_any, list_all, cons_option}
 use Rattle.std.specs.Prelude.{is_some}
-use Rattle.std.proofs.Math.Bool.{beq}
 use Rattle.feature_expr.specs.declared.expr.Expr.{Expr}
 use Rattle.feature_expr.specs.declared.value.Value.{Value}
-use Rattle.feature_expr.specs.Expressions.{weight_of}
 use Rattle.feature_expr.specs.Satisfaction.{satisfies}
 use Rattle.condition_sat.specs.Admitted.{IsAdmitted}
 use Rattle.plain_relation.specs.Relations.{columns_of, row_of}
 use Rattle.plain_relation.specs.Relations as plain
-use Rattle.vtable.specs.declared.decision.Fate.{Fate}
 use Rattle.vtable.specs.declared.decision.Fate.TheVariants as fate
 use Rattle.vtable.specs.declared.table.VColumn.{VColumn}
-use Rattle.vtable.specs.declared.table.VRow.{VRow}
 use Rattle.vtable.specs.Answers.{column_at, fits}
-use Rattle.vtable.specs.Possible.{can_hold, can_meet, some_admitted}
-use Rattle.vtable.specs.TableForm.{same_cells, stands, has_cell, is_settled, cells_stand, is_row_formed, settled, settled_column, column_staying, columns_staying, columns_are_distinct, same_column, cut_cells, cut_row}
-use Rattle.vtable.specs.Passes.{staying, fate_of, cells_by, cell_by, row_staying}
-use Rattle.vtable.proofs.CellLaws.{same_cells_are}
-use Rattle.vtable.proofs.JoinLaws.{settled_holds, settled_is, settled_weight}
-use Rattle.vtable.proofs.JoinedLaws.{beq_self}
-use Rattle.vtable.proofs.PossibleLaws.{true_or_false, both, and_first, and_second, or_left, or_right, or_cases, some_admitted_of, some_admitted_same, admitted_of, none_admitted, each_fails, not_both}
-use Rattle.vtable.proofs.RowsLaws.{rows_cost, choice_true, choice_false}
+use Rattle.vtable.specs.Possible.{can_hold, can_meet}
+use Rattle.vtable.specs.TableForm.{has_cell, is_settled, settled, settled_column, column_staying, columns_staying, columns_are_distinct, same_column, cut_cells}
+use Rattle.vtable.specs.Passes.{staying, fate_of, cells_by, cell_by}
+use Rattle.vtable.proofs.JoinLaws.{settled_holds, settled_is}
+use Rattle.vtable.proofs.PossibleLaws.{true_or_false, both, and_first, and_second, or_left, or_right, some_admitted_of, some_admitted_same, each_fails}
+use Rattle.vtable.proofs.RowsLaws.{choice_true, choice_false}
 
 -- ---- columns
 

@@ -1,7 +1,7 @@
 -- A settled condition, and the one condition of a group.
-use Rattle.std.proofs.Common.{◌≡◌, ℕ, ◌+◌, ◌<◌, ◌≤◌, ◌&&◌, ◌||◌, Bool, true, false, not, if◌then◌else◌, List, [], ◌∷◌, ◌++◌, length, refl, sym, ◌∙◌, ap, subst, rules, arith, length-append, ◌⊎◌, inl, inr}
-use Rattle.std.specs.List.{sum_by, list_any}
-use Rattle.std.proofs.lemmas.List.Sums.{sum_by-append, sum_by-cons}
+use Rattle.std.proofs.Common.{◌≡◌, ℕ, ◌+◌, ◌≤◌, ◌&&◌, ◌||◌, Bool, true, false, not, if◌then◌else◌, List, [], ◌∷◌, ◌++◌, length, refl, sym, ◌∙◌, ap, subst, rules, arith, ◌⊎◌, inl, inr}
+use Rattle.std.specs.List.{sum_by}
+use Rattle.std.proofs.lemmas.List.Sums.{sum_by-cons}
 use Rattle.feature_expr.specs.declared.expr.Expr.{Expr, fold-Expr, out-Expr}
 use Rattle.feature_expr.specs.declared.expr.Expr as e
 use Rattle.feature_expr.specs.declared.expr.Expr.TheOpen.{Expr-F}
@@ -12,7 +12,7 @@ use Rattle.condition_sat.specs.Admitted.{IsAdmitted}
 use Rattle.vtable.specs.declared.group.Group.{Group}
 use Rattle.vtable.specs.declared.table.VRow.{VRow}
 use Rattle.vtable.specs.Disjunction.{any_holds, conds_cost}
-use Rattle.vtable.specs.Possible.{can_hold, can_meet, always_holds, some_admitted, is_true}
+use Rattle.vtable.specs.Possible.{can_hold, can_meet, always_holds, is_true}
 use Rattle.vtable.specs.TableForm.{settled, is_settled}
 use Rattle.vtable.specs.Passes.{IsJoined, AllJoined}
 use Rattle.vtable.proofs.PossibleLaws.{true_or_false, each_fails, some_admitted_same, some_admitted_of, none_admitted, admitted_of, or_left, or_right, and_first, both}

@@ -1,7 +1,7 @@
 -- The rows that the groups are joined to: in ascending order, formed as the rows of the groups are, and there where
 -- these are.
-use Rattle.std.proofs.Common.{◌≡◌, ℕ, ◌+◌, ◌<◌, ◌≤◌, ◌&&◌, ◌||◌, Bool, true, false, not, if◌then◌else◌, List, [], ◌∷◌, ◌++◌, length, map, Option, Some, None, refl, sym, ◌∙◌, ap, ap₂, subst, rules, arith, ◌⊎◌, inl, inr}
-use Rattle.std.specs.List.{list_any, list_all, sum_by}
+use Rattle.std.proofs.Common.{◌≡◌, ℕ, ◌+◌, ◌≤◌, ◌&&◌, ◌||◌, Bool, true, false, not, List, [], ◌∷◌, length, map, Option, Some, None, refl, sym, ◌∙◌, ap, ap₂, subst, rules, arith, inl, inr}
+use Rattle.std.specs.List.{list_any, list_all}
 use Rattle.std.specs.List.Sorted.{IsPermutation}
 use Rattle.std.specs.Ordering.{is_lt}
 use Rattle.std.specs.Prelude.{is_some}
@@ -18,11 +18,11 @@ use Rattle.vtable.specs.declared.group.Group.{Group}
 use Rattle.vtable.specs.declared.table.VColumn.{VColumn}
 use Rattle.vtable.specs.declared.table.VRow.{VRow}
 use Rattle.vtable.specs.Disjunction.{any_holds, conds_cost}
-use Rattle.vtable.specs.Possible.{can_meet, some_admitted}
-use Rattle.vtable.specs.TableForm.{same_cells, cells_cmp, stands, rows_weight, rows_ascend, is_row_formed, is_settled, cells_stand, has_cell}
+use Rattle.vtable.specs.Possible.{can_meet}
+use Rattle.vtable.specs.TableForm.{same_cells, cells_cmp, stands, rows_ascend, is_row_formed, is_settled, cells_stand, has_cell}
 use Rattle.vtable.specs.Passes.{is_in_order, groups_after, group_of, with_cond, group_rows, IsJoined, AllJoined}
 use Rattle.vtable.proofs.CellLaws.{same_cells_are, cells_ascend}
-use Rattle.vtable.proofs.PossibleLaws.{true_or_false, both, and_first, and_second, or_left, or_right, or_cases, some_admitted_of, admitted_of, none_admitted, each_fails, not_both}
+use Rattle.vtable.proofs.PossibleLaws.{true_or_false, both, and_first, and_second, or_left, some_admitted_of, admitted_of, none_admitted, each_fails}
 use Rattle.vtable.proofs.RowsLaws.{group_stands, groups_cost, rows_cost, choice_true, choice_false}
 
 -- no row is before the one in front of it, the first not before these cells

@@ -3,6 +3,7 @@ pub mod CellLaws
 pub mod ConfiguredLaws
 pub mod CutLaws
 pub mod DisjunctionLaws
+pub mod EmptyLaws
 pub mod GroupLaws
 pub mod JoinLaws
 pub mod JoinedLaws

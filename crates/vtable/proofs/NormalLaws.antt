@@ -1,7 +1,7 @@
 -- The passes together give the table form.
-use Rattle.std.proofs.Common.{◌≡◌, ℕ, ◌+◌, ◌<◌, ◌≤◌, ◌==◌, ◌&&◌, ◌||◌, Bool, true, false, not, if◌then◌else◌, List, [], ◌∷◌, ◌++◌, length, map, Option, Some, None, refl, sym, ◌∙◌, ap, ap₂, subst, rules, arith, ◌⊎◌, inl, inr}
+use Rattle.std.proofs.Common.{◌≡◌, ℕ, ◌+◌, ◌≤◌, ◌&&◌, Bool, true, false, not, List, [], ◌∷◌, length, map, Option, None, refl, sym, ◌∙◌, ap, subst, rules, arith, ◌⊎◌, inl, inr}
 use Rattle.std.specs.Prelude.{◌↔◌}
-use Rattle.std.specs.List.{list_any, list_all, filter_map, filter, sum_by}
+use Rattle.std.specs.List.{list_all, filter_map, filter}
 use Rattle.std.specs.List.Sorted.{IsPermutation}
 use Rattle.std.proofs.lemmas.List.Sorted.{IsPermutation-map, list_any-IsPermutation, length_permutation, sum_by-IsPermutation}
 use Rattle.feature_expr.specs.declared.column_name.ColName.{ColName}
@@ -13,14 +13,13 @@ use Rattle.condition_sat.specs.Admitted.{IsAdmitted}
 use Rattle.plain_relation.specs.Relations.{SameRelation, HasRow, Cell, relation_with, columns_of, row_of, cell_of}
 use Rattle.plain_relation.specs.Relations as plain
 use Rattle.vtable.specs.declared.group.CutRow.{CutRow}
-use Rattle.vtable.specs.declared.group.Group.{Group}
 use Rattle.vtable.specs.declared.table.VColumn.{VColumn}
 use Rattle.vtable.specs.declared.table.VRow.{VRow}
 use Rattle.vtable.specs.declared.table.VTable.{VTable}
-use Rattle.vtable.specs.Answers.{column_at, fits, rows_at, answer_at, IsAnswerAt}
-use Rattle.vtable.specs.Possible.{can_hold}
-use Rattle.vtable.specs.TableForm.{same_cells, stands, has_cell, is_settled, is_row_formed, column_staying, columns_staying, columns_are_distinct, cut_cells, cut_row, rows_weight, IsTableForm, IsNormalOf}
+use Rattle.vtable.specs.Answers.{column_at, fits, answer_at, IsAnswerAt}
+use Rattle.vtable.specs.TableForm.{same_cells, stands, has_cell, is_settled, is_row_formed, column_staying, columns_staying, columns_are_distinct, cut_cells, cut_row, rows_weight, IsNormalOf}
 use Rattle.vtable.specs.Passes.{row_staying, staying, table_row, groups_after, is_in_order, AllJoined}
+use Rattle.vtable.proofs.AnswerLaws.{answer_after}
 use Rattle.vtable.proofs.CellLaws.{same_cells_are, same_cells_self}
 use Rattle.vtable.proofs.CutLaws.{staying_is, columns_are_settled, staying_are_distinct, same_columns, same_row, some_cell}
 use Rattle.vtable.proofs.JoinedLaws.{rows_do_ascend, joined_stand, joined_cost, joined_length, rows_are_formed, all_permuted}
@@ -217,6 +216,7 @@ normal_is model before after made distinct answers =
       };
       columns = columns;
       rows = rows_stand model before after made;
+      answer = λ c admitted. answer_after model before after c admitted columns (list_of_filled c before.columns before.rows (answers c admitted).filled) (rows_stand model before after made c admitted) (rows_formed model before after made answers) (answers c admitted).distinct;
       same = λ c admitted. same_relation model before after c admitted columns (list_of_filled c before.columns before.rows (answers c admitted).filled) (rows_stand model before after made c admitted);
       fewer = weighed.1;
       lighter = omega arith;

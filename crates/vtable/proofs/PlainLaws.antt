@@ -1,14 +1,12 @@
 -- What a table is in one variant is the relation that its configured answer is.
-use Rattle.std.proofs.Common.{◌≡◌, ℕ, ◌&&◌, ◌||◌, Bool, true, false, List, [], ◌∷◌, ◌++◌, map, Option, Some, None, refl, sym, ◌∙◌, ap, ap₂, subst, rules, ◌⊎◌, inl, inr}
+use Rattle.std.proofs.Common.{◌≡◌, ℕ, Bool, true, List, [], ◌∷◌, map, Option, Some, None, refl, sym, ◌∙◌, ap, ap₂, subst, rules, inl, inr}
 use Rattle.std.specs.Prelude.{◌↔◌}
-use Rattle.std.specs.List.{list_any, list_all, filter}
+use Rattle.std.specs.List.{list_any, list_all}
 use Rattle.std.specs.Ordering.{is_eq, ordering_then}
-use Rattle.std.specs.declared.cmp.Ordering.{Ordering}
-use Rattle.std.specs.declared.cmp.Ordering.TheVariants.{Less, Equal, Greater}
+use Rattle.std.specs.declared.cmp.Ordering.TheVariants.{Equal}
 use Rattle.std.specs.Cmp.Lexicographic.{slice_cmp}
 use Rattle.feature_expr.specs.declared.column_name.ColName.{ColName}
 use Rattle.feature_expr.specs.declared.value.Value.{Value}
-use Rattle.feature_expr.specs.Satisfaction.{satisfies}
 use Rattle.plain_relation.specs.Relations.{SameRelation, HasRow, Cell, relation_with, columns_of, row_of, cell_of}
 use Rattle.plain_relation.specs.Relations as plain
 use Rattle.vtable.specs.declared.plain.PlainColumn.{PlainColumn}
@@ -18,7 +16,7 @@ use Rattle.vtable.specs.TableForm.{value_cmp}
 use Rattle.vtable.specs.Configured.{plain_column, values_of, same_values, cells_of, relation_in}
 use Rattle.vtable.proofs.CellLaws.{value_is, then_first, then_second, is_equal, same_cells_self}
 use Rattle.vtable.proofs.NormalLaws.{same_with}
-use Rattle.vtable.proofs.PossibleLaws.{true_or_false, both, and_first, and_second, or_left, or_right, or_cases}
+use Rattle.vtable.proofs.PossibleLaws.{and_first, and_second, or_left, or_right, or_cases}
 
 values_equal : (one other : List Value) → slice_cmp value_cmp one other ≡ Equal → one ≡ other
 values_equal [] [] h = refl

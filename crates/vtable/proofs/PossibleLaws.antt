@@ -4,7 +4,7 @@ use Rattle.std.specs.Prelude.{is_some, IfSome, IfNone}
 use Rattle.std.proofs.Math.Nat.{eq-or-lt_of_le}
 use Rattle.feature_expr.specs.declared.config.TheConstants.{FEATURE_LIMIT}
 use Rattle.feature_expr.specs.declared.expr.Expr.{Expr}
-use Rattle.feature_expr.specs.Config.{IsBetween, IsConfig}
+use Rattle.feature_expr.specs.Config.{IsBetween}
 use Rattle.feature_expr.specs.Satisfaction.{satisfies}
 use Rattle.condition_sat.specs.Admitted.{IsAdmitted, SomeAdmitted}
 use Rattle.vtable.specs.Possible.{some_config, some_admitted, can_hold, can_meet, always_holds}

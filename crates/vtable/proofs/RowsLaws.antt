@@ -1,28 +1,20 @@
 -- What the rows of a table have in common with their groups, and with the rows that the groups are joined to.
-use Rattle.std.proofs.Common.{◌≡◌, ℕ, ◌+◌, ◌<◌, ◌≤◌, ◌&&◌, ◌||◌, Bool, true, false, not, if◌then◌else◌, List, [], ◌∷◌, ◌++◌, length, map, Option, Some, None, refl, sym, ◌∙◌, ap, ap₂, subst, rules, arith, ◌⊎◌, inl, inr}
-use Rattle.std.specs.List.{list_any, list_all, sum_by}
-use Rattle.std.specs.Ordering.{is_lt}
-use Rattle.std.specs.Prelude.{is_some}
-use Rattle.std.proofs.Math.Bool.{beq}
-use Rattle.std.proofs.lemmas.List.{map-append}
-use Rattle.std.proofs.lemmas.List.Folds.{list_all-append}
+use Rattle.std.proofs.Common.{◌≡◌, ℕ, ◌+◌, ◌≤◌, ◌&&◌, ◌||◌, Bool, true, false, if◌then◌else◌, List, [], ◌∷◌, ◌++◌, length, Option, Some, None, refl, sym, ◌∙◌, ap, subst, rules, arith, inl, inr}
+use Rattle.std.specs.List.{list_any}
 use Rattle.std.proofs.lemmas.List.Sums.{sum_by-cons}
 use Rattle.feature_expr.specs.declared.expr.Expr.{Expr}
 use Rattle.feature_expr.specs.declared.value.Value.{Value}
 use Rattle.feature_expr.specs.Expressions.{weight_of}
 use Rattle.feature_expr.specs.Satisfaction.{satisfies}
-use Rattle.condition_sat.specs.Admitted.{IsAdmitted}
 use Rattle.vtable.specs.declared.group.Group.{Group}
-use Rattle.vtable.specs.declared.table.VColumn.{VColumn}
 use Rattle.vtable.specs.declared.table.VRow.{VRow}
 use Rattle.vtable.specs.Disjunction.{any_holds, conds_cost}
-use Rattle.vtable.specs.Possible.{can_meet, some_admitted}
-use Rattle.vtable.specs.TableForm.{same_cells, cells_cmp, stands, rows_weight, rows_ascend, is_row_formed, is_settled, cells_stand, has_cell}
-use Rattle.vtable.specs.Passes.{is_in_order, groups_after, group_of, with_cond, group_rows, IsJoined, AllJoined}
-use Rattle.vtable.proofs.CellLaws.{same_cells_are, cells_ascend}
+use Rattle.vtable.specs.TableForm.{same_cells, stands, rows_weight}
+use Rattle.vtable.specs.Passes.{groups_after, group_of, with_cond}
+use Rattle.vtable.proofs.CellLaws.{same_cells_are}
 use Rattle.vtable.proofs.DisjunctionLaws.{any_push, cost_push}
 use Rattle.vtable.proofs.JoinLaws.{cost_cons}
-use Rattle.vtable.proofs.PossibleLaws.{true_or_false, both, and_first, and_second, or_left, or_right, or_cases, some_admitted_of, admitted_of, none_admitted, each_fails, not_both}
+use Rattle.vtable.proofs.PossibleLaws.{true_or_false}
 
 -- whether a row of the group is there, and has these cells
 abbrev pub group_stands : List ℕ → List (Option Value) → Group → Bool

@@ -1,8 +1,7 @@
 -- The rows that stay: there where the cut rows that have a cell are, formed, and no heavier.
-use Rattle.std.proofs.Common.{◌≡◌, ℕ, ◌+◌, ◌<◌, ◌≤◌, ◌==◌, ◌&&◌, ◌||◌, Bool, true, false, not, if◌then◌else◌, List, [], ◌∷◌, ◌++◌, length, map, Option, Some, None, refl, sym, ◌∙◌, ap, ap₂, subst, rules, arith, ◌⊎◌, inl, inr}
-use Rattle.std.specs.List.{list_any, list_all, filter_map, cons_option, filter}
+use Rattle.std.proofs.Common.{◌≡◌, ℕ, ◌+◌, ◌≤◌, ◌==◌, ◌&&◌, ◌||◌, Bool, true, false, not, if◌then◌else◌, List, [], ◌∷◌, length, map, Option, Some, None, refl, sym, ◌∙◌, ap, ap₂, subst, rules, arith, inl, inr}
+use Rattle.std.specs.List.{list_all, filter_map, cons_option}
 use Rattle.std.specs.Prelude.{is_some}
-use Rattle.std.proofs.Math.Bool.{beq}
 use Rattle.std.proofs.lemmas.Map.Views.{exact_unsigned_eq}
 use Rattle.feature_expr.specs.declared.expr.Expr.{Expr}
 use Rattle.feature_expr.specs.declared.value.Value.{Value}
@@ -12,14 +11,14 @@ use Rattle.condition_sat.specs.Admitted.{IsAdmitted}
 use Rattle.vtable.specs.declared.table.VColumn.{VColumn}
 use Rattle.vtable.specs.declared.table.VRow.{VRow}
 use Rattle.vtable.specs.Answers.{column_at, fits}
-use Rattle.vtable.specs.Possible.{can_hold, can_meet, some_admitted}
-use Rattle.vtable.specs.TableForm.{same_cells, stands, has_cell, is_settled, cells_stand, is_row_formed, settled, settled_column, column_staying, columns_staying, cut_cells, cut_row}
+use Rattle.vtable.specs.Possible.{can_hold, can_meet}
+use Rattle.vtable.specs.TableForm.{same_cells, stands, has_cell, cells_stand, is_row_formed, settled, column_staying, columns_staying, cut_cells, cut_row}
 use Rattle.vtable.specs.Passes.{row_staying}
 use Rattle.vtable.proofs.CellLaws.{same_cells_are}
 use Rattle.vtable.proofs.JoinLaws.{settled_holds, settled_is, settled_weight}
 use Rattle.vtable.proofs.JoinedLaws.{beq_self}
 use Rattle.vtable.proofs.CutLaws.{cut_is, meets_settled, settled_meets, one_stays, one_goes, cut_stays, cut_goes, column_there, fits_first, fits_rest}
-use Rattle.vtable.proofs.PossibleLaws.{true_or_false, both, and_first, and_second, some_admitted_of, admitted_of, each_fails, not_both}
+use Rattle.vtable.proofs.PossibleLaws.{true_or_false, both, and_first, and_second, some_admitted_of, admitted_of, not_both}
 use Rattle.vtable.proofs.RowsLaws.{rows_cost, choice_true, choice_false}
 
 abbrev pub kept_as : Expr → VRow → List (Option Value) → Option VRow

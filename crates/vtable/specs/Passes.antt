@@ -1,5 +1,5 @@
 -- What the passes make of columns and rows, one after another.
-use Rattle.std.specs.Prelude.{Bool, true, false, not, ◌≡◌, ◌&&◌, ◌++◌, ◌+◌, ◌≤◌, ℕ, List, [], ◌∷◌, map, length, Option, Some, None, if◌then◌else◌}
+use Rattle.std.specs.Prelude.{Bool, true, false, not, ◌≡◌, ◌&&◌, ◌++◌, ◌+◌, ◌≤◌, ℕ, List, [], ◌∷◌, map, Option, Some, None, if◌then◌else◌}
 use Rattle.std.specs.List.{filter_map}
 use Rattle.std.specs.Ordering.{is_lt}
 use Rattle.feature_expr.specs.declared.expr.Expr.{Expr}

@@ -1,5 +1,5 @@
 -- The one table in which an answer is given, and what becomes of a table that is brought into this form.
-use Rattle.std.specs.Prelude.{Bool, true, false, not, ◌≡◌, ◌≤◌, ◌+◌, ◌==◌, ◌&&◌, ◌||◌, ℕ, List, [], ◌∷◌, map, filter, length, Option, Some, None, is_some, if◌then◌else◌}
+use Rattle.std.specs.Prelude.{Bool, true, false, not, ◌≡◌, ◌≤◌, ◌+◌, ◌&&◌, ◌||◌, ℕ, List, [], ◌∷◌, map, length, Option, Some, None, is_some, if◌then◌else◌}
 use Rattle.std.specs.List.{list_all, list_any, filter_map, sum_by}
 use Rattle.std.specs.Option.{option_cmp}
 use Rattle.std.specs.Ordering.{is_lt, is_eq, nat_cmp, int_cmp}
@@ -15,7 +15,7 @@ use Rattle.feature_expr.specs.declared.value.Value.{Value}
 use Rattle.feature_expr.specs.declared.value.Value.TheVariants as value
 use Rattle.condition_sat.specs.Admitted.{IsAdmitted}
 use Rattle.plain_relation.specs.Relations.{SameRelation, same_name}
-use Rattle.vtable.specs.Answers.{answer_at, rows_at, same_kind}
+use Rattle.vtable.specs.Answers.{IsAnswerAt, answer_at, same_kind}
 use Rattle.vtable.specs.Possible.{can_hold, can_meet, always_holds, is_true}
 use Rattle.vtable.specs.declared.table.VColumn.{VColumn}
 use Rattle.vtable.specs.declared.table.VRow.{VRow}
@@ -120,12 +120,13 @@ stands c cells rows = list_any (λ (row : VRow). satisfies c row.cond && same_ce
 -- What a table is in table form. The columns that stay keep their order, and their condition or `true`. A list of cells
 -- is there, in an admitted configuration, exactly where it has a cell and a row that is there is cut to it: since
 -- no list of cells stands twice, its condition is the disjunction of those of the rows that had it. In each admitted
--- configuration it is the same relation as before. It has no more rows than before, and their conditions weigh at most
+-- configuration it is a well-formed answer, and the same relation as before. It has no more rows than before, and their conditions weigh at most
 -- one more for each row.
 pub record IsNormalOf (model : Expr) (before after : VTable) : Type 0 where
   pub form : IsTableForm model after
   pub columns : after.columns ≡ columns_staying model before.columns
   pub rows : (c : List ℕ) → IsAdmitted model c → (cells : List (Option Value)) → stands c cells after.rows ≡ (has_cell cells && stands c cells (map (cut_row model before.columns) before.rows))
+  pub answer : (c : List ℕ) → IsAdmitted model c → IsAnswerAt c after
   pub same : (c : List ℕ) → IsAdmitted model c → SameRelation (answer_at c after) (answer_at c before)
   pub fewer : length after.rows ≤ length before.rows
   pub lighter : rows_weight after.rows ≤ rows_weight before.rows + length before.rows

@@ -112,9 +112,7 @@ impl OutTable {
 pub fn normal(alloc: Global, model: &Model, table: VTable) -> Result<OutTable, Memory>
     requires distinct { columns_are_distinct table.columns ≡ true }
     requires answers { (c : Items ℕ) → IsAdmitted model.now c → IsAnswerAt c table }
-    ensures normal { IfOk result (λ out. IsNormalOf model.now table out) }
-    // It is a well-formed answer in each admitted variant, too.
-    ensures answers { IfOk result (λ out. (c : Items ℕ) → IsAdmitted model.now c → IsAnswerAt c out) }
+    ensures { IfOk result (λ out. IsNormalOf model.now table out) }
 {
     let table = made_normal(alloc, model, table)?;
     Ok(OutTable { table })

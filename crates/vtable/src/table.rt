@@ -1,3 +1,7 @@
+ghost use Rattle.std.specs.Prelude.{◌≡◌, [], ℕ, true, List as Items};
+ghost use Rattle.vtable.specs.Answers.{IsAnswerAt};
+ghost use Rattle.vtable.specs.TableForm.{columns_are_distinct};
+
 use feature_expr::{ColName, Expr, Kind, List, Memory, TryCopy, Value};
 use std::alloc::Global;
 
@@ -23,6 +27,20 @@ pub struct VRow {
 pub struct VTable {
     pub columns: List<VColumn>,
     pub rows: List<VRow>,
+}
+
+impl VTable {
+    /// A table without columns, which is absent in all variants. It takes no memory.
+    pub fn empty(alloc: Global) -> VTable
+        ensures columns { result.columns ≡ [] }
+        ensures rows { result.rows ≡ [] }
+        ensures distinct { columns_are_distinct result.columns ≡ true }
+        ensures answers { (c : Items ℕ) → IsAnswerAt c result }
+    {
+        let columns = List::new(alloc);
+        let rows = List::new(alloc);
+        VTable { columns, rows }
+    }
 }
 
 impl TryCopy for VColumn {

@@ -1,10 +1,10 @@
 //! Tables worked out by hand, as the lists of their columns and rows.
 use crate::configured::made_plain;
 use crate::out_table::made_normal;
-use crate::{Plain, VColumn, VRow, VTable};
+use crate::{Plain, VColumn, VRow, VTable, configure, normal};
 use condition_sat::Model;
 use feature_expr::{
-    ColName, Config, Expr, Features, Kind, List, Memory, Name, Text, TryCopy, Value, parse_expr,
+    ColName, Config, Expr, Features, Kind, List, Memory, Name, Text, TryCopy, Value, or, parse_expr,
 };
 use std::alloc::Global;
 use std::fmt::Write;
@@ -343,5 +343,47 @@ fn is_what_the_variant_has(rt: HostRuntime) -> Result<(), Fail> {
             assert_eq!(rt; text.as_str(), *wanted);
         }
     }
+    Ok(())
+}
+
+#[test]
+fn nothing_stays_nothing(rt: HostRuntime) -> Result<(), Fail> {
+    let model = Model::new(rt.alloc(), Expr::True)?;
+    let out = normal(rt.alloc(), &model, VTable::empty(rt.alloc()))?;
+    assert!(rt; out.table().columns.is_empty() && out.table().rows.is_empty());
+    let plain = configure(rt.alloc(), &VTable::empty(rt.alloc()), &Config::none())?;
+    let text = shown(rt.alloc(), &plain)?;
+    assert_eq!(rt; text.as_str(), "absent");
+    Ok(())
+}
+
+/// A disjunction of a million links over 40 features.
+fn chain(alloc: Global) -> Result<Expr, Memory> {
+    let mut chain = Expr::Feature(0);
+    for link in 1..1_000_000u32 {
+        chain = or(alloc, chain, Expr::Feature((link % 40) as u8))?;
+    }
+    Ok(chain)
+}
+
+/// A row of one number under such a chain.
+fn chained_row(alloc: Global, number: i64) -> Result<VRow, Fail> {
+    let mut cells = List::new(alloc);
+    let cell = Some(Value::Int(number));
+    cells.push(cell).ok().ok_or("memory")?;
+    let cond = chain(alloc)?;
+    Ok(VRow { cells, cond })
+}
+
+#[test]
+fn long_chains_are_no_deep_ones(rt: HostRuntime) -> Result<(), Fail> {
+    let mut before = table(rt.alloc(), NUMBER, &[])?;
+    for number in [2, 1, 2] {
+        let row = chained_row(rt.alloc(), number)?;
+        before.rows.push(row).ok().ok_or("memory")?;
+    }
+    let model = Model::new(rt.alloc(), Expr::True)?;
+    let after = made_normal(rt.alloc(), &model, before)?;
+    assert_eq!(rt; after.rows.len(), 2);
     Ok(())
 }

@@ -1,4 +1,4 @@
-use Rattle.vtable.proofs.PassLaws.{none_left, one_put}
+use Rattle.vtable.proofs.PassLaws.{none_left}
 use Rattle.vtable.proofs.decision.put_next.Goals as goal
 
 pub returns-in-None : goal.returns-in-None

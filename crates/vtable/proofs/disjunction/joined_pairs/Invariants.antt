@@ -1,6 +1,5 @@
 use Rattle.std.proofs.Common.{◌≡◌, ◌<◌, ◌≤◌, ◌+◌, ◌*◌, ◌||◌, ℕ, length}
 use Rattle.std.proofs.Common.{List as Items}
-use Rattle.std.specs.Vec.{vec_len}
 use Rattle.vtable.specs.Disjunction.{any_holds, conds_cost}
 use Rattle.vtable.proofs.disjunction.joined_pairs.Given as goal
 

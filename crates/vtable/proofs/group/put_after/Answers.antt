@@ -1,4 +1,4 @@
-use Rattle.std.proofs.Common.{◌≡◌, ◌++◌, false, rules, ◌∙◌, sym, ap, Some}
+use Rattle.std.proofs.Common.{◌≡◌, ◌++◌, false, rules, ◌∙◌, ap, Some}
 use Rattle.vtable.specs.TableForm.{same_cells}
 use Rattle.vtable.specs.Passes.{groups_after, table_row}
 use Rattle.vtable.proofs.GroupLaws.{apart_put}
