@@ -8,7 +8,6 @@ import sys
 import tempfile
 
 TOP, PROGRAM = sys.argv[1:]
-sys.dont_write_bytecode = True
 sys.path.insert(0, f"{TOP}/examples")
 import answers  # noqa: E402
 

@@ -14,5 +14,5 @@ if ! command -v python3 > /dev/null; then
 fi
 status=0
 python3 "$top/docs/run_examples.py" "$top" "$program" || status=1
-python3 "$top/docs/run_answers.py" "$top" "$program" || status=1
+python3 -B "$top/docs/run_answers.py" "$top" "$program" || status=1
 exit $status
