@@ -10,7 +10,7 @@ returns-then-eq-clause-all g c = λ done.
     closed_all c.args.opening.now c.args.stream.now c.turns.fed (g.O.Sink.held c.args.out.now).bytes (g.O.Sink.held c.turns.out).bytes c.poll-polled.new.self
     (polled_on c.args.opening.now c.args.stream.now c.turns.fed (g.O.Sink.held c.args.out.now).bytes (g.O.Sink.held c.turns.out).bytes c.turns.session c.poll-polled.new.self c.poll-polled.result c.poll-polled.ensures c.turns.invariant.at)
     (has_moved c.poll-polled.ensures.did)
-      (let closed : c.poll-polled.result ≡ polled.Closed = search rules in subst (λ r. Says (has_moved c.poll-polled.ensures.did) r c.poll-polled.new.self) closed c.poll-polled.ensures.says)
+    (let closed : c.poll-polled.result ≡ polled.Closed = search rules in subst (λ r. Says (has_moved c.poll-polled.ensures.did) r c.poll-polled.new.self) closed c.poll-polled.ensures.says)
 
 pub returns-then-eq-clause-replays : goal.returns-then-eq-clause-replays
 returns-then-eq-clause-replays g c =

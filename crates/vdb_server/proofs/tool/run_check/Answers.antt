@@ -27,9 +27,12 @@ returns-clause-told g c = record {
 }
 
 pub returns-clause-ends : goal.returns-clause-ends
-returns-clause-ends g c = (c.if-put_all.ensures.put.1, record {
-  catalog = c.in-Ok.opening.catalog;
-  rows = c.in-Ok.opening.rows;
-  checked = c.in-Ok.ensures.checked;
-  put = rw (c.as_slice.ensures.value, c.in-Ok-line_of_passed.ensures) at c.if-put_all.ensures.put.0;
-})
+returns-clause-ends g c = (
+  c.if-put_all.ensures.put.1,
+  record {
+    catalog = c.in-Ok.opening.catalog;
+    rows = c.in-Ok.opening.rows;
+    checked = c.in-Ok.ensures.checked;
+    put = rw (c.as_slice.ensures.value, c.in-Ok-line_of_passed.ensures) at c.if-put_all.ensures.put.0;
+  },
+)
