@@ -12,7 +12,7 @@ use Rattle.feature_expr.proofs.NegationLaws.{to_not, to_open, leads_feature, lea
 
 -- a part leads to another under every limit from the given one on
 abbrev pub LeadsTo : List ℕ → List Token → ℕ → Part → ℕ → Part → ℕ → List (Symbol Part Mark) → Type 0
-LeadsTo text tokens most part at part' at' rest = (outer : ℕ → List (List (Symbol Part Mark))) (fitting : ℕ → ℕ → Bool) (limit : ℕ) → most ≤ limit → Through (forms outer limit) (fits fitting text tokens) (signs_of part) part at (signs_of part') part' at' rest
+LeadsTo text tokens most part at part' at' rest = (outer : ℕ → ℕ → List (List (Symbol Part Mark))) (fitting : ℕ → ℕ → Bool) (limit : ℕ) → most ≤ limit → Through (forms outer limit) (fits fitting text tokens) (signs_of part) part at (signs_of part') part' at' rest
 
 module _ (names : List (List ℕ)) (text : List ℕ) (tokens : List Token) (most : ℕ) where
   -- what refuses a part refuses the part that it stands in
@@ -26,13 +26,13 @@ module _ (names : List (List ℕ)) (text : List ℕ) (tokens : List Token) (most
       (λ outer fitting. through_reaches (forms outer most) (fits fitting text tokens) (signs_of part) part at (signs_of part') part' at' rest (place + 1) (t outer fitting most (omega arith)) (r.0 outer fitting), r.1, r.2)
   refused_through part at part' at' rest t deep fault.Memory r = tt
 
-  or_never : (outer : ℕ → List (List (Symbol Part Mark))) (fitting : ℕ → ℕ → Bool) (limit n : ℕ) (s : List (Symbol Part Mark)) (at to : ℕ) → sign_at text tokens at ≡ sign.And → at < to → NeverFirst (forms outer limit) (fits fitting text tokens) (Own sign.And) s → AnyOf (λ form. Matches (forms outer limit) (fits fitting text tokens) (form ++ s) at to) (forms outer limit (MoreOr n)) → ⊥
+  or_never : (outer : ℕ → ℕ → List (List (Symbol Part Mark))) (fitting : ℕ → ℕ → Bool) (limit n : ℕ) (s : List (Symbol Part Mark)) (at to : ℕ) → sign_at text tokens at ≡ sign.And → at < to → NeverFirst (forms outer limit) (fits fitting text tokens) (Own sign.And) s → AnyOf (λ form. Matches (forms outer limit) (fits fitting text tokens) (form ++ s) at to) (forms outer limit (MoreOr n)) → ⊥
   or_never outer fitting limit n s at to fit order free (inl m) = free at to fit order m
   or_never outer fitting limit n s at to fit order free (inr (inl m)) =
       let c = close_sign (forms outer limit) (fits fitting text tokens) (Own sign.Or) (Nonterminal (Conjunction n) ∷ Nonterminal (MoreOr n) ∷ s) at to order m in cc (fit, c.0)
   or_never outer fitting limit n s at to fit order free (inr (inr none)) = none
 
-  pub or_chain : (outer : ℕ → List (List (Symbol Part Mark))) (fitting : ℕ → ℕ → Bool) (limit n : ℕ) → IsChain (forms outer limit) (fits fitting text tokens) (Disjunction n) (Conjunction n) (MoreOr n) (Own sign.Or) (Own sign.Or ∷ Own sign.And ∷ []) (Own sign.And ∷ [])
+  pub or_chain : (outer : ℕ → ℕ → List (List (Symbol Part Mark))) (fitting : ℕ → ℕ → Bool) (limit n : ℕ) → IsChain (forms outer limit) (fits fitting text tokens) (Disjunction n) (Conjunction n) (MoreOr n) (Own sign.Or) (Own sign.Or ∷ Own sign.And ∷ []) (Own sign.And ∷ [])
   or_chain outer fitting limit n = record {
     whole_forms = refl;
     more_forms = refl;
@@ -40,7 +40,7 @@ module _ (names : List (List ℕ)) (text : List ℕ) (tokens : List Token) (most
     first = λ s free. free.0;
   }
 
-  pub and_chain : (outer : ℕ → List (List (Symbol Part Mark))) (fitting : ℕ → ℕ → Bool) (limit n : ℕ) → IsChain (forms outer limit) (fits fitting text tokens) (Conjunction n) (Negation n) (MoreAnd n) (Own sign.And) (Own sign.And ∷ []) []
+  pub and_chain : (outer : ℕ → ℕ → List (List (Symbol Part Mark))) (fitting : ℕ → ℕ → Bool) (limit n : ℕ) → IsChain (forms outer limit) (fits fitting text tokens) (Conjunction n) (Negation n) (MoreAnd n) (Own sign.And) (Own sign.And ∷ []) []
   and_chain outer fitting limit n = record {
     whole_forms = refl;
     more_forms = refl;

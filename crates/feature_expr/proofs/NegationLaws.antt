@@ -15,7 +15,7 @@ is_below n limit h = grind (arith, nat_tests)
 pub not_below : (n limit : ℕ) → limit ≤ n → nat_lt n limit ≡ true → ⊥
 not_below n limit h e = grind (arith, nat_tests)
 
-module _ (outer : ℕ → List (List (Symbol Part Mark))) (fitting : ℕ → ℕ → Bool) (text : List ℕ) (tokens : List Token) (limit n : ℕ) where
+module _ (outer : ℕ → ℕ → List (List (Symbol Part Mark))) (fitting : ℕ → ℕ → Bool) (text : List ℕ) (tokens : List Token) (limit n : ℕ) where
   -- what is left of a part behind its first token
   abbrev pub After : List (Symbol Part Mark) → ℕ → ℕ → Sign → Type 0
   After s at to sign.True = Matches (forms outer limit) (fits fitting text tokens) s (at + 1) to

@@ -80,7 +80,7 @@ module _ (names : List (List ℕ)) (text : List ℕ) (tokens : List Token) (limi
   Keeps (Whole (Conjunction n)) before at x m = (s : List (Symbol Part Mark)) (to : ℕ) → n ≤ limit → Frees (Own sign.And ∷ []) s → m < to → D (Nonterminal (Conjunction n) ∷ s) at to → (n + nesting_at x position.Conjunct ≤ limit) × D s m to
   Keeps (Whole (MoreAnd n)) before at x m = (s : List (Symbol Part Mark)) (to : ℕ) → n + nesting_at before position.Conjunct ≤ limit → Frees (Own sign.And ∷ []) s → m < to → D (Nonterminal (MoreAnd n) ∷ s) at to → (n + nesting_at x position.Conjunct ≤ limit) × D s m to
   Keeps (Whole (Negation n)) before at x m = (s : List (Symbol Part Mark)) (to : ℕ) → n ≤ limit → m < to → D (Nonterminal (Negation n) ∷ s) at to → (n + nesting_at x position.Operand ≤ limit) × D s m to
-  Keeps (Whole (Outer number)) before at x m = Unit {0}
+  Keeps (Whole (Outer number n)) before at x m = Unit {0}
   Keeps (Begun first n) before at x m = (s : List (Symbol Part Mark)) (to : ℕ) → n ≤ limit → m < to → After alone none_fits text tokens limit n s at to first → (n + nesting_at x position.Operand ≤ limit) × D s m to
 
   below_limit : (n : ℕ) → nat_lt n limit ≡ true → n + 1 ≤ limit

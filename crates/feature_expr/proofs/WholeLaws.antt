@@ -47,7 +47,7 @@ forms_real limit (MoreOr n) symbols real = (real, ((tt, real), tt))
 forms_real limit (Conjunction n) symbols real = (real, tt)
 forms_real limit (MoreAnd n) symbols real = (real, ((tt, real), tt))
 forms_real limit (Negation n) symbols real = ((tt, real), ((tt, real), ((tt, real), nested_real (nat_lt n limit) n symbols real)))
-forms_real limit (Outer number) symbols real = tt
+forms_real limit (Outer number n) symbols real = tt
 
 any_real : (goal : Type 0) (M : List (Symbol Part Mark) → Type 0) (symbols : List (Symbol Part Mark)) (fs : List (List (Symbol Part Mark))) → AreRealForms fs symbols → ((s : List (Symbol Part Mark)) → AreReal s → M s → goal) → AnyOf (λ form. M (form ++ symbols)) fs → goal
 any_real goal M symbols [] real on none = absurd none

@@ -22,7 +22,7 @@ pub data Part : Type 0 where
   Conjunction : (nesting : ℕ) → Part
   MoreAnd : (nesting : ℕ) → Part
   Negation : (nesting : ℕ) → Part
-  Outer : (number : ℕ) → Part
+  Outer : (number nesting : ℕ) → Part
 
 -- the signs of expressions, and those of a grammar that has expressions among its parts
 pub data Mark : Type 0 where
@@ -35,7 +35,7 @@ nesting_of (MoreOr n) = n
 nesting_of (Conjunction n) = n
 nesting_of (MoreAnd n) = n
 nesting_of (Negation n) = n
-nesting_of (Outer number) = 0
+nesting_of (Outer number n) = n
 
 -- what opens one more level, where that is within the limit
 abbrev pub nested : ℕ → List (List (Symbol Part Mark))
@@ -43,14 +43,14 @@ nested nesting =
     (Terminal (Own sign.Not) ∷ Nonterminal (Negation (nesting + 1)) ∷ []) ∷ (Terminal (Own sign.Open) ∷ Nonterminal (Disjunction (nesting + 1)) ∷ Terminal (Own sign.Close) ∷ []) ∷ []
 
 -- the forms of each part, where nesting has this limit
-abbrev pub forms : (ℕ → List (List (Symbol Part Mark))) → ℕ → Part → List (List (Symbol Part Mark))
+abbrev pub forms : (ℕ → ℕ → List (List (Symbol Part Mark))) → ℕ → Part → List (List (Symbol Part Mark))
 forms outer limit (Disjunction n) = (Nonterminal (Conjunction n) ∷ Nonterminal (MoreOr n) ∷ []) ∷ []
 forms outer limit (MoreOr n) = [] ∷ (Terminal (Own sign.Or) ∷ Nonterminal (Conjunction n) ∷ Nonterminal (MoreOr n) ∷ []) ∷ []
 forms outer limit (Conjunction n) = (Nonterminal (Negation n) ∷ Nonterminal (MoreAnd n) ∷ []) ∷ []
 forms outer limit (MoreAnd n) = [] ∷ (Terminal (Own sign.And) ∷ Nonterminal (Negation n) ∷ Nonterminal (MoreAnd n) ∷ []) ∷ []
 forms outer limit (Negation n) =
     (Terminal (Own sign.True) ∷ []) ∷ (Terminal (Own sign.False) ∷ []) ∷ (Terminal (Own sign.Feature) ∷ []) ∷ (if nat_lt n limit then nested n else [])
-forms outer limit (Outer number) = outer number
+forms outer limit (Outer number n) = outer number n
 
 -- the signs that would go on a part which seems to have ended
 abbrev pub signs_of : Part → List Mark
@@ -59,7 +59,7 @@ signs_of (MoreOr n) = Own sign.Or ∷ Own sign.And ∷ []
 signs_of (Conjunction n) = Own sign.And ∷ []
 signs_of (MoreAnd n) = Own sign.And ∷ []
 signs_of (Negation n) = []
-signs_of (Outer number) = []
+signs_of (Outer number n) = []
 
 -- a word is a keyword or a name
 abbrev pub sign_of_word : List ℕ → Sign
@@ -109,18 +109,18 @@ feature_at names text tokens at = feature_of names text (slice_get tokens at)
 -- given one on
 abbrev pub IsRead : List ℕ → List Token → ℕ → Part → ℕ → ℕ → Type 0
 IsRead text tokens most part at end =
-    (outer : ℕ → List (List (Symbol Part Mark))) (fitting : ℕ → ℕ → Bool) (limit : ℕ) → most ≤ limit → Leads (forms outer limit) (fits fitting text tokens) (signs_of part) part at end
+    (outer : ℕ → ℕ → List (List (Symbol Part Mark))) (fitting : ℕ → ℕ → Bool) (limit : ℕ) → most ≤ limit → Leads (forms outer limit) (fits fitting text tokens) (signs_of part) part at end
 
 -- why a part isn't read: no token could stand there, under any limit; one could, under a higher limit alone; or one
 -- stands there that names no feature
 abbrev pub IsRefused : List (List ℕ) → List ℕ → List Token → ℕ → Part → ℕ → Fault → Type 0
 IsRefused names text tokens most part at (fault.Syntax place) =
-    (outer : ℕ → List (List (Symbol Part Mark))) (fitting : ℕ → ℕ → Bool) (limit : ℕ) → most ≤ limit → FaultAt (forms outer limit) (fits fitting text tokens) (signs_of part) part at place
+    (outer : ℕ → ℕ → List (List (Symbol Part Mark))) (fitting : ℕ → ℕ → Bool) (limit : ℕ) → most ≤ limit → FaultAt (forms outer limit) (fits fitting text tokens) (signs_of part) part at place
 IsRefused names text tokens most part at (fault.TooDeep place) =
-    ((outer : ℕ → List (List (Symbol Part Mark))) (fitting : ℕ → ℕ → Bool) → FaultAt (forms outer most) (fits fitting text tokens) (signs_of part) part at place)
-    × ((outer : ℕ → List (List (Symbol Part Mark))) (fitting : ℕ → ℕ → Bool) (limit : ℕ) → most < limit → nesting_of part < limit → Reaches (forms outer limit) (fits fitting text tokens) part at (place + 1))
+    ((outer : ℕ → ℕ → List (List (Symbol Part Mark))) (fitting : ℕ → ℕ → Bool) → FaultAt (forms outer most) (fits fitting text tokens) (signs_of part) part at place)
+    × ((outer : ℕ → ℕ → List (List (Symbol Part Mark))) (fitting : ℕ → ℕ → Bool) (limit : ℕ) → most < limit → nesting_of part < limit → Reaches (forms outer limit) (fits fitting text tokens) part at (place + 1))
 IsRefused names text tokens most part at (fault.UnknownFeature place) =
-    ((outer : ℕ → List (List (Symbol Part Mark))) (fitting : ℕ → ℕ → Bool) → Reaches (forms outer most) (fits fitting text tokens) part at (place + 1)) × (sign_at text tokens place ≡ sign.Feature) × (feature_at names text tokens place ≡ None)
+    ((outer : ℕ → ℕ → List (List (Symbol Part Mark))) (fitting : ℕ → ℕ → Bool) → Reaches (forms outer most) (fits fitting text tokens) part at (place + 1)) × (sign_at text tokens place ≡ sign.Feature) × (feature_at names text tokens place ≡ None)
 IsRefused names text tokens most part at fault.Memory = Unit {0}
 
 -- every feature that is named from one place up to another is known

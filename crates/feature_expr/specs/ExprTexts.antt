@@ -12,8 +12,8 @@ use Rattle.feature_expr.specs.declared.parse.Sign.TheVariants as sign
 use Rattle.feature_expr.specs.declared.token.Token.{Token}
 
 -- expressions alone: no other grammar stands round them
-abbrev pub alone : ℕ → List (List (Symbol Part Mark))
-alone number = []
+abbrev pub alone : ℕ → ℕ → List (List (Symbol Part Mark))
+alone number nesting = []
 
 abbrev pub none_fits : ℕ → ℕ → Bool
 none_fits number at = false

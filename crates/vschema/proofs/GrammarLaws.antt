@@ -125,7 +125,7 @@ module _ (text : List ℕ) (tokens : List Token) where
   -- a table, a row or the end never begins with the word `model`
   entries_free : (at to : ℕ) → stands text tokens at sign.Model ≡ true → at < to → Goes text tokens (Entries ∷ []) at to → ⊥
   entries_free at to model order m =
-      none_of text tokens [] at to ((END ∷ []) ∷ (TABLE ∷ NAME ∷ OPEN ∷ Columns ∷ When ∷ SEMICOLON ∷ Entries ∷ []) ∷ (ROW ∷ NAME ∷ OPEN ∷ Cells ∷ When ∷ SEMICOLON ∷ Entries ∷ []) ∷ []) order (never text tokens 12 [] at (λ e. end_isnt at sign.Model refl e model), (never text tokens 2 (NAME ∷ OPEN ∷ Columns ∷ When ∷ SEMICOLON ∷ Entries ∷ []) at (λ e. model_table text tokens at model e), (never text tokens 3 (NAME ∷ OPEN ∷ Cells ∷ When ∷ SEMICOLON ∷ Entries ∷ []) at (λ e. model_row text tokens at model e), tt))) (close_part grammar (token_fits text tokens) (Outer 3) [] at to order m)
+      none_of text tokens [] at to ((END ∷ []) ∷ (TABLE ∷ NAME ∷ OPEN ∷ Columns ∷ When ∷ SEMICOLON ∷ Entries ∷ []) ∷ (ROW ∷ NAME ∷ OPEN ∷ Cells ∷ When ∷ SEMICOLON ∷ Entries ∷ []) ∷ []) order (never text tokens 12 [] at (λ e. end_isnt at sign.Model refl e model), (never text tokens 2 (NAME ∷ OPEN ∷ Columns ∷ When ∷ SEMICOLON ∷ Entries ∷ []) at (λ e. model_table text tokens at model e), (never text tokens 3 (NAME ∷ OPEN ∷ Cells ∷ When ∷ SEMICOLON ∷ Entries ∷ []) at (λ e. model_row text tokens at model e), tt))) (close_part grammar (token_fits text tokens) (Outer 3 0) [] at to order m)
 
   model_open : (names : List (List ℕ)) (at : ℕ) (model : Expr) (end : ℕ) → IsModel names text tokens at model end → Stands text tokens (ModelLine ∷ Entries ∷ []) at → Stands text tokens (Entries ∷ []) end
   model_open names at model end (no_model other) s = chosen text tokens 2 [] [] ((MODEL ∷ Expression 0 ∷ SEMICOLON ∷ []) ∷ []) (Entries ∷ []) at refl tt (never text tokens 1 (Expression 0 ∷ SEMICOLON ∷ Entries ∷ []) at (λ e. cc (e, other)), tt) s
@@ -154,18 +154,18 @@ module _ (text : List ℕ) (tokens : List Token) where
 
   columns_unworded : (symbols : Form) → Unworded (MoreColumns ∷ symbols)
   columns_unworded symbols at to order word m =
-      none_of text tokens symbols at to ((CLOSE ∷ []) ∷ (COMMA ∷ Columns ∷ []) ∷ []) order ((λ t o n. mark_unworded 6 symbols close_class at t o word n), ((λ t o n. mark_unworded 7 (Columns ∷ symbols) comma_class at t o word n), tt)) (close_part grammar (token_fits text tokens) (Outer 5) symbols at to order m)
+      none_of text tokens symbols at to ((CLOSE ∷ []) ∷ (COMMA ∷ Columns ∷ []) ∷ []) order ((λ t o n. mark_unworded 6 symbols close_class at t o word n), ((λ t o n. mark_unworded 7 (Columns ∷ symbols) comma_class at t o word n), tt)) (close_part grammar (token_fits text tokens) (Outer 5 0) symbols at to order m)
 
-  when_line : (p n at : ℕ) (symbols : Form) → outer p ≡ [] ∷ (WHEN ∷ Expression n ∷ []) ∷ [] → Unworded symbols → stands text tokens at sign.When ≡ true → Stands text tokens (Nonterminal (Outer p) ∷ symbols) at → Stands text tokens (Expression n ∷ symbols) (at + 1)
+  when_line : (p n at : ℕ) (symbols : Form) → outer p 0 ≡ [] ∷ (WHEN ∷ Expression n ∷ []) ∷ [] → Unworded symbols → stands text tokens at sign.When ≡ true → Stands text tokens (Nonterminal (Outer p 0) ∷ symbols) at → Stands text tokens (Expression n ∷ symbols) (at + 1)
   when_line p n at symbols is free when s =
       pass text tokens 4 (Expression n ∷ symbols) at when (chosen text tokens p ([] ∷ []) (WHEN ∷ Expression n ∷ []) [] symbols at is ((λ to order m. free at to order (sign_class text tokens sign.When at when) m), tt) tt s)
 
-  when_open : (p n at end : ℕ) (names : List (List ℕ)) (cond : Expr) (symbols : Form) → outer p ≡ [] ∷ (WHEN ∷ Expression n ∷ []) ∷ [] → Unworded symbols → IsWhen names text tokens n at cond end → Stands text tokens (Nonterminal (Outer p) ∷ symbols) at → Stands text tokens symbols end
+  when_open : (p n at end : ℕ) (names : List (List ℕ)) (cond : Expr) (symbols : Form) → outer p 0 ≡ [] ∷ (WHEN ∷ Expression n ∷ []) ∷ [] → Unworded symbols → IsWhen names text tokens n at cond end → Stands text tokens (Nonterminal (Outer p 0) ∷ symbols) at → Stands text tokens symbols end
   when_open p n at end names cond symbols is free (no_when other) s = chosen text tokens p [] [] ((WHEN ∷ Expression n ∷ []) ∷ []) symbols at is tt (never text tokens 4 (Expression n ∷ symbols) at (λ e. cc (e, other)), tt) s
   when_open p n at end names cond symbols is free (some_when expr last when spelled) s =
       expression_ends text tokens names n (at + 1) last expr symbols spelled (free_of text tokens n symbols free) (when_line p n at symbols is free when s)
 
-  when_fault : (p n at : ℕ) (names : List (List ℕ)) (why : CatalogFault) (symbols : Form) → outer p ≡ [] ∷ (WHEN ∷ Expression n ∷ []) ∷ [] → Unworded symbols → WhenFault names text tokens n at why → Stands text tokens (Nonterminal (Outer p) ∷ symbols) at → IsViableFault text tokens why
+  when_fault : (p n at : ℕ) (names : List (List ℕ)) (why : CatalogFault) (symbols : Form) → outer p 0 ≡ [] ∷ (WHEN ∷ Expression n ∷ []) ∷ [] → Unworded symbols → WhenFault names text tokens n at why → Stands text tokens (Nonterminal (Outer p 0) ∷ symbols) at → IsViableFault text tokens why
   when_fault p n at names why symbols is free f s = expr_fault_of names n (at + 1) why symbols f.inside (free_of text tokens n symbols free) (when_line p n at symbols is free f.begins s)
 
   tail_open : (names : List (List ℕ)) (at : ℕ) (cond : Expr) (end : ℕ) (symbols : Form) → IsTail names text tokens at cond end → Stands text tokens (When ∷ SEMICOLON ∷ symbols) at → Stands text tokens symbols end

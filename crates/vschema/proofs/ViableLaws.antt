@@ -212,16 +212,16 @@ module _ (text : List ℕ) (tokens : List Token) where
   in_any symbols at to (other ∷ before) form after m = inr (in_any symbols at to before form after m)
 
   -- the one form of a part that goes on
-  pub chosen : (p : ℕ) (before : List Form) (form : Form) (after : List Form) (symbols : Form) (at : ℕ) → outer p ≡ before ++ form ∷ after → NoneGoes symbols at before → NoneGoes symbols at after → Stands (Nonterminal (Outer p) ∷ symbols) at → Stands (form ++ symbols) at
+  pub chosen : (p : ℕ) (before : List Form) (form : Form) (after : List Form) (symbols : Form) (at : ℕ) → outer p 0 ≡ before ++ form ∷ after → NoneGoes symbols at before → NoneGoes symbols at after → Stands (Nonterminal (Outer p 0) ∷ symbols) at → Stands (form ++ symbols) at
   chosen p before form after symbols at is none none' s = record {
-    on = λ to later v. this_of symbols at to before form after later none none' (rw is at (close_part grammar token_fits (Outer p) symbols at to later (s.on to later v)));
-    back = λ to m. s.back to (open_part grammar token_fits (Outer p) symbols at to (rw is (in_any symbols at to before form after m)));
+    on = λ to later v. this_of symbols at to before form after later none none' (rw is at (close_part grammar token_fits (Outer p 0) symbols at to later (s.on to later v)));
+    back = λ to m. s.back to (open_part grammar token_fits (Outer p 0) symbols at to (rw is (in_any symbols at to before form after m)));
   }
 
-  pub no_form : (p : ℕ) (all : List Form) (symbols : Form) (at : ℕ) → outer p ≡ all → NoneGoes symbols at all → Stands (Nonterminal (Outer p) ∷ symbols) at → IsFirstFault text tokens at
+  pub no_form : (p : ℕ) (all : List Form) (symbols : Form) (at : ℕ) → outer p 0 ≡ all → NoneGoes symbols at all → Stands (Nonterminal (Outer p 0) ∷ symbols) at → IsFirstFault text tokens at
   no_form p all symbols at is none s = record {
-    before = reached (Nonterminal (Outer p) ∷ symbols) at s;
-    never = λ to later v. none_of symbols at to all later none (rw is at (close_part grammar token_fits (Outer p) symbols at to later (s.on to later v)));
+    before = reached (Nonterminal (Outer p 0) ∷ symbols) at s;
+    never = λ to later v. none_of symbols at to all later none (rw is at (close_part grammar token_fits (Outer p 0) symbols at to later (s.on to later v)));
   }
 
   or_mark_at : (bytes : List ℕ) (p q : Bool) → bytes_eq bytes (codes "(") ≡ p → bytes_eq bytes (codes ")") ≡ q → sign_of_mark bytes ≡ sign_of_word (codes "or") → ⊥

@@ -70,42 +70,42 @@ abbrev pub END : Symbol Part Mark
 END = Terminal (Foreign 12)
 
 abbrev pub Names : Symbol Part Mark
-Names = Nonterminal (Outer 0)
+Names = Nonterminal (Outer 0 0)
 
 abbrev pub MoreNames : Symbol Part Mark
-MoreNames = Nonterminal (Outer 1)
+MoreNames = Nonterminal (Outer 1 0)
 
 abbrev pub ModelLine : Symbol Part Mark
-ModelLine = Nonterminal (Outer 2)
+ModelLine = Nonterminal (Outer 2 0)
 
 abbrev pub Entries : Symbol Part Mark
-Entries = Nonterminal (Outer 3)
+Entries = Nonterminal (Outer 3 0)
 
 abbrev pub Columns : Symbol Part Mark
-Columns = Nonterminal (Outer 4)
+Columns = Nonterminal (Outer 4 0)
 
 abbrev pub MoreColumns : Symbol Part Mark
-MoreColumns = Nonterminal (Outer 5)
+MoreColumns = Nonterminal (Outer 5 0)
 
 abbrev pub Cells : Symbol Part Mark
-Cells = Nonterminal (Outer 6)
+Cells = Nonterminal (Outer 6 0)
 
 abbrev pub MoreCells : Symbol Part Mark
-MoreCells = Nonterminal (Outer 7)
+MoreCells = Nonterminal (Outer 7 0)
 
 abbrev pub InnerWhen : Symbol Part Mark
-InnerWhen = Nonterminal (Outer 8)
+InnerWhen = Nonterminal (Outer 8 0)
 
 abbrev pub When : Symbol Part Mark
-When = Nonterminal (Outer 9)
+When = Nonterminal (Outer 9 0)
 
 -- an expression, where so many brackets are open
 abbrev pub Expression : ℕ → Symbol Part Mark
 Expression nesting = Nonterminal (Disjunction nesting)
 
 -- the forms of each part, by its number; lists end with the sign behind them
-abbrev pub outer : ℕ → List Form
-outer number =
+abbrev pub outer : ℕ → ℕ → List Form
+outer number nesting =
     if number == 0 then (SEMICOLON ∷ []) ∷ (NAME ∷ MoreNames ∷ []) ∷ [] else
     (if number == 1 then (SEMICOLON ∷ []) ∷ (COMMA ∷ NAME ∷ MoreNames ∷ []) ∷ [] else
     (if number == 2 then [] ∷ (MODEL ∷ Expression 0 ∷ SEMICOLON ∷ []) ∷ [] else
