@@ -1,0 +1,16 @@
+pub mod Conditions
+pub mod ExpressionFaults
+pub mod Faults
+pub mod Lexemes
+pub mod Parts
+pub mod PrintTasks
+pub mod Printing
+pub mod Queries
+pub mod Settings
+pub mod StatementGrammar
+pub mod Statements
+pub mod Texts
+pub mod Truths
+pub mod Wanted
+pub mod WriteFaults
+pub mod Writes
