@@ -310,6 +310,7 @@ kind_of (back.ReadyForQuery status) = kinds.ReadyForQuery
 kind_of (back.RowDescription fields) = kinds.RowDescription
 kind_of (back.DataRow cells) = kinds.DataRow
 kind_of (back.CommandComplete tag) = kinds.CommandComplete
+kind_of back.EmptyQueryResponse = kinds.EmptyQueryResponse
 kind_of (back.ErrorResponse fields) = kinds.ErrorResponse
 
 abbrev byte_of : BackKind → ℕ
@@ -320,6 +321,7 @@ byte_of kinds.ReadyForQuery = 90
 byte_of kinds.RowDescription = 84
 byte_of kinds.DataRow = 68
 byte_of kinds.CommandComplete = 67
+byte_of kinds.EmptyQueryResponse = 73
 byte_of kinds.ErrorResponse = 69
 
 kind_again : (m : Back) → back_kind (back_byte m) ≡ Some (kind_of m)
@@ -330,6 +332,7 @@ kind_again (back.ReadyForQuery status) = refl
 kind_again (back.RowDescription fields) = refl
 kind_again (back.DataRow cells) = refl
 kind_again (back.CommandComplete tag) = refl
+kind_again back.EmptyQueryResponse = refl
 kind_again (back.ErrorResponse fields) = refl
 
 abbrev some : BackKind → Option BackKind
@@ -360,9 +363,12 @@ kind_takes byte kind e =
                 | inl is ↦ told_kind byte 68 kinds.DataRow kind is refl (rw (a, b, c, d, f, is) at e)
                 | inr g ↦ elim (cases_Bool (byte == 67)) [
                   | inl is ↦ told_kind byte 67 kinds.CommandComplete kind is refl (rw (a, b, c, d, f, g, is) at e)
-                  | inr h ↦ elim (cases_Bool (byte == 69)) [
-                    | inl is ↦ told_kind byte 69 kinds.ErrorResponse kind is refl (rw (a, b, c, d, f, g, h, is) at e)
-                    | inr i ↦ (let no : none ≡ Some kind = rw (a, b, c, d, f, g, h, i) at e in absurd cc)
+                  | inr h ↦ elim (cases_Bool (byte == 73)) [
+                    | inl is ↦ told_kind byte 73 kinds.EmptyQueryResponse kind is refl (rw (a, b, c, d, f, g, h, is) at e)
+                    | inr i ↦ elim (cases_Bool (byte == 69)) [
+                      | inl is ↦ told_kind byte 69 kinds.ErrorResponse kind is refl (rw (a, b, c, d, f, g, h, i, is) at e)
+                      | inr j ↦ (let no : none ≡ Some kind = rw (a, b, c, d, f, g, h, i, j) at e in absurd cc)
+                    ]
                   ]
                 ]
               ]
@@ -428,6 +434,7 @@ body_again (back.DataRow cells) body h n is le =
     counted (back_fields kinds.DataRow) body (to_be_bytes w16 (length cells) ++ flat_map cell_bytes cells) is
     ∙ ap (λ r. r >>= λ c. times cell_at c.0 c.1 >>= λ f. read_back (back.DataRow f.0) f.1) count
     ∙ ap (λ r. r >>= λ f. read_back (back.DataRow f.0) f.1) read_all
+body_again back.EmptyQueryResponse body h n is le = ap (back_fields kinds.EmptyQueryResponse) is
 body_again (back.CommandComplete tag) body h n is le = rw (is, string_last tag h) refl
 body_again (back.ErrorResponse fields) body h n is le =
     let more : length fields < length (flat_map error_field_bytes fields ++ 0 ∷ []) = omega (arith, count_errors fields, length-append (flat_map error_field_bytes fields) (0 ∷ [])) in
@@ -497,6 +504,9 @@ body_takes kinds.CommandComplete body m rest fits e =
     let t = string_takes body a.0.0 a.0.1 fits a.1 in
     subst (λ (x : Back × List ℕ). BodyTaken kinds.CommandComplete body x.0 x.1) (ok_is (back.CommandComplete a.0.0, a.0.1) (m, rest) a.2)
     (record { good = t.1; numbers = tt; front = string a.0.0; laid_out = refl; taken = t.0.parts; byte = refl })
+body_takes kinds.EmptyQueryResponse body m rest fits e =
+    subst (λ (x : Back × List ℕ). BodyTaken kinds.EmptyQueryResponse body x.0 x.1) (ok_is (back.EmptyQueryResponse, body) (m, rest) e)
+    (record { good = refl; numbers = tt; front = []; laid_out = refl; taken = refl; byte = refl })
 body_takes kinds.ErrorResponse body m rest fits e =
     let a = bind_ok (until_end next_error_field (length body) body) (λ f. read_back (back.ErrorResponse f.0) f.1) (m, rest) e in
     let all = until_takes next_error_field error_field_bytes is_error_field IsEnd error_field_takes (length body) body a.0.0 a.0.1 fits a.1 in
@@ -600,6 +610,7 @@ laid_out (back.ReadyForQuery status) = refl
 laid_out (back.RowDescription fields) = (flat_map field_bytes fields, fields_laid_out fields, refl)
 laid_out (back.DataRow cells) = refl
 laid_out (back.CommandComplete tag) = refl
+laid_out back.EmptyQueryResponse = refl
 laid_out (back.ErrorResponse fields) = refl
 
 pub back_written : (m : Back) → HasNumbers m → back_refusal m ≡ None → IsBack m (back_bytes m)

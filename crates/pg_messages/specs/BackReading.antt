@@ -16,7 +16,7 @@ use Rattle.pg_messages.specs.declared.packet.Head.TheVariants as head
 use Rattle.pg_messages.specs.Fields.{◌>>=◌, number_at, byte_at, string_at, times, until_end}
 use Rattle.pg_messages.specs.Packet.{message_head, ended, packet_of}
 
--- the type bytes are `R`, `K`, `S`, `Z`, `T`, `D`, `C` and `E`
+-- the type bytes are `R`, `K`, `S`, `Z`, `T`, `D`, `C`, `I` and `E`
 abbrev pub back_kind : ℕ → Option BackKind
 back_kind byte =
     if byte == 82 then Some kinds.AuthenticationOk
@@ -26,6 +26,7 @@ back_kind byte =
     else if byte == 84 then Some kinds.RowDescription
     else if byte == 68 then Some kinds.DataRow
     else if byte == 67 then Some kinds.CommandComplete
+    else if byte == 73 then Some kinds.EmptyQueryResponse
     else if byte == 69 then Some kinds.ErrorResponse
     else None
 
@@ -111,6 +112,7 @@ back_fields kinds.DataRow body = do
 back_fields kinds.CommandComplete body = do
   tag ← string_at body
   Ok (back.CommandComplete tag.0, tag.1)
+back_fields kinds.EmptyQueryResponse body = Ok (back.EmptyQueryResponse, body)
 back_fields kinds.ErrorResponse body = do
   fields ← until_end next_error_field (length body) body
   Ok (back.ErrorResponse fields.0, fields.1)

@@ -12,7 +12,7 @@ use Rattle.pg_messages.specs.declared.back.TheConstants.{BACK_LIMIT, COUNT_LIMIT
 use Rattle.pg_messages.specs.declared.encode_refused.EncodeRefused.{EncodeRefused}
 use Rattle.pg_messages.specs.Spelling.{AreSpelled, is_string, string, message, refusal_of}
 
--- `R`, `K`, `S`, `Z`, `T`, `D`, `C` and `E`
+-- `R`, `K`, `S`, `Z`, `T`, `D`, `C`, `I` and `E`
 abbrev pub back_byte : Back → ℕ
 back_byte back.AuthenticationOk = 82
 back_byte (back.BackendKeyData process key) = 75
@@ -21,6 +21,7 @@ back_byte (back.ReadyForQuery status) = 90
 back_byte (back.RowDescription fields) = 84
 back_byte (back.DataRow cells) = 68
 back_byte (back.CommandComplete tag) = 67
+back_byte back.EmptyQueryResponse = 73
 back_byte (back.ErrorResponse fields) = 69
 
 -- `I`, `T` and `E`
@@ -54,6 +55,7 @@ back_layout (back.ReadyForQuery status) = status_byte status ∷ []
 back_layout (back.RowDescription fields) = to_be_bytes w16 (length fields) ++ flat_map field_bytes fields
 back_layout (back.DataRow cells) = to_be_bytes w16 (length cells) ++ flat_map cell_bytes cells
 back_layout (back.CommandComplete tag) = string tag
+back_layout back.EmptyQueryResponse = []
 back_layout (back.ErrorResponse fields) = flat_map error_field_bytes fields ++ 0 ∷ []
 
 abbrev pub back_bytes : Back → List ℕ
@@ -73,6 +75,7 @@ is_spelled_back (back.ReadyForQuery status) = true
 is_spelled_back (back.RowDescription fields) = nat_le (length fields) COUNT_LIMIT && list_all is_field fields
 is_spelled_back (back.DataRow cells) = nat_le (length cells) COUNT_LIMIT
 is_spelled_back (back.CommandComplete tag) = is_string tag
+is_spelled_back back.EmptyQueryResponse = true
 is_spelled_back (back.ErrorResponse fields) = list_all is_error_field fields
 
 abbrev pub back_refusal : Back → Option EncodeRefused
@@ -91,6 +94,7 @@ IsBody (back.ParameterStatus name value) body = body ≡ back_layout (back.Param
 IsBody (back.ReadyForQuery status) body = body ≡ back_layout (back.ReadyForQuery status)
 IsBody (back.DataRow cells) body = body ≡ back_layout (back.DataRow cells)
 IsBody (back.CommandComplete tag) body = body ≡ back_layout (back.CommandComplete tag)
+IsBody back.EmptyQueryResponse body = body ≡ back_layout back.EmptyQueryResponse
 IsBody (back.ErrorResponse fields) body = body ≡ back_layout (back.ErrorResponse fields)
 
 -- the numbers of a message are within the widths of their fields
@@ -106,6 +110,7 @@ HasNumbers (back.ParameterStatus name value) = Unit {0}
 HasNumbers (back.ReadyForQuery status) = Unit {0}
 HasNumbers (back.DataRow cells) = Unit {0}
 HasNumbers (back.CommandComplete tag) = Unit {0}
+HasNumbers back.EmptyQueryResponse = Unit {0}
 HasNumbers (back.ErrorResponse fields) = Unit {0}
 
 -- the bytes are this message

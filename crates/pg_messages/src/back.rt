@@ -22,6 +22,8 @@ pub enum Back {
     /// The cells of a row, None where a cell is null.
     DataRow(List<Option<Text>>),
     CommandComplete(Text),
+    /// What stands in the place of a CommandComplete where a text has no statement.
+    EmptyQueryResponse,
     ErrorResponse(List<ErrorField>),
 }
 
@@ -35,6 +37,7 @@ pub enum BackKind {
     RowDescription,
     DataRow,
     CommandComplete,
+    EmptyQueryResponse,
     ErrorResponse,
 }
 

@@ -62,6 +62,7 @@ fn kind_of(byte: u8) -> Option<BackKind>
         b'T' => Some(BackKind::RowDescription),
         b'D' => Some(BackKind::DataRow),
         b'C' => Some(BackKind::CommandComplete),
+        b'I' => Some(BackKind::EmptyQueryResponse),
         b'E' => Some(BackKind::ErrorResponse),
         _ => None,
     }
@@ -115,6 +116,7 @@ fn read_back_fields(alloc: Global, kind: BackKind, body: &[u8]) -> Result<(Back,
             let (tag, rest) = read_text(alloc, body)?;
             Ok((Back::CommandComplete(tag), rest))
         }
+        BackKind::EmptyQueryResponse => Ok((Back::EmptyQueryResponse, body)),
         BackKind::ErrorResponse => {
             let (fields, rest) = read_error_fields(alloc, body)?;
             Ok((Back::ErrorResponse(fields), rest))

@@ -38,6 +38,7 @@ fn byte_of(back: &Back) -> u8
         Back::RowDescription(_) => b'T',
         Back::DataRow(_) => b'D',
         Back::CommandComplete(_) => b'C',
+        Back::EmptyQueryResponse => b'I',
         Back::ErrorResponse(_) => b'E',
     }
 }
@@ -46,7 +47,10 @@ fn is_spelled(back: &Back) -> bool
     ensures { result ≡ is_spelled_back back.now }
 {
     match back {
-        Back::AuthenticationOk | Back::BackendKeyData(_, _) | Back::ReadyForQuery(_) => true,
+        Back::AuthenticationOk
+        | Back::BackendKeyData(_, _)
+        | Back::ReadyForQuery(_)
+        | Back::EmptyQueryResponse => true,
         Back::ParameterStatus(name, value) => is_string_text(name) && is_string_text(value),
         Back::RowDescription(fields) => fields.len() <= COUNT_LIMIT
             && are_fields(fields.as_slice()),
@@ -98,6 +102,7 @@ fn body_len(back: &Back) -> u64
         Back::RowDescription(fields) => fields_len(fields.as_slice()).saturating_add(2),
         Back::DataRow(cells) => cells_len(cells.as_slice()).saturating_add(2),
         Back::CommandComplete(tag) => string_len(tag),
+        Back::EmptyQueryResponse => 0,
         Back::ErrorResponse(fields) => error_fields_len(fields.as_slice()).saturating_add(1),
     }
 }
@@ -174,6 +179,7 @@ fn put_back(back: &Back, into: &mut Vec<u8>)
         Back::RowDescription(fields) => put_row_description(fields, into),
         Back::DataRow(cells) => put_row(cells, into),
         Back::CommandComplete(tag) => put_string(tag, into),
+        Back::EmptyQueryResponse => {}
         Back::ErrorResponse(fields) => {
             put_error_fields(fields.as_slice(), into);
             put_byte(0, into);

@@ -99,7 +99,8 @@ fn frontend_messages_are_read(rt: HostRuntime) -> Result<(), Fail> {
 
 #[test]
 fn backend_messages_are_read(rt: HostRuntime) -> Result<(), Fail> {
-    let table: [(&[u8], &str); 11] = [
+    let table: [(&[u8], &str); 12] = [
+        (b"I\x00\x00\x00\x04", "Whole(EmptyQueryResponse, 5)"),
         (
             b"R\x00\x00\x00\x08\x00\x00\x00\x00",
             "Whole(AuthenticationOk, 9)",
@@ -147,7 +148,8 @@ fn backend_messages_are_read(rt: HostRuntime) -> Result<(), Fail> {
 
 #[test]
 fn bad_backend_messages_are_told(rt: HostRuntime) -> Result<(), Fail> {
-    let table: [(&[u8], &str); 31] = [
+    let table: [(&[u8], &str); 32] = [
+        (b"I\x00\x00\x00\x05I", "Bad(5, Body)"),
         (b"Z", "More"),
         (b"Z\x7F\xFF\xFF\xFF", "More"),
         (b"Q", "Bad(0, TypeByte)"),
@@ -259,7 +261,8 @@ fn row_descriptions_tell_no_table(rt: HostRuntime) -> Result<(), Fail> {
 
 #[test]
 fn backend_messages_are_written(rt: HostRuntime) -> Result<(), Fail> {
-    let table: [&[u8]; 8] = [
+    let table: [&[u8]; 9] = [
+        b"I\x00\x00\x00\x04",
         b"R\x00\x00\x00\x08\x00\x00\x00\x00",
         b"K\x00\x00\x00\x0C\x00\x00\x00\x01\x00\x00\x00\x00",
         b"S\x00\x00\x00\x13vdb_snapshot\x000\x00",
