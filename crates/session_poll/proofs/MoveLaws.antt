@@ -17,14 +17,15 @@ use Rattle.session_poll.specs.declared.state.Phase.TheVariants as phases
 use Rattle.session_poll.specs.Courses.{Course, Input, StartUp, Message, Bad, Unread, Next}
 use Rattle.session_poll.specs.Packets.{is_bad, IsStartupCut, IsFrontCut, IsReadAs}
 use Rattle.session_poll.specs.Parts.{Keeps, Same, Drops, Skips, Takes, Moved, Idles}
-use Rattle.session_poll.specs.Queries.{RunsOut, EndsQuery}
+use Rattle.session_poll.specs.Queries.{RunsStatement, RunsOut, EndsQuery}
 use Rattle.session_poll.specs.Replies.{spelled}
 use Rattle.session_poll.specs.Runs.{AllFit, HasSnapshot}
 use Rattle.session_poll.specs.Session.{state_of, held_of, waiting_of}
 use Rattle.session_poll.specs.Standing.{works}
 use Rattle.session_poll.specs.StartUps.{Rejects, StartsUp}
-use Rattle.session_poll.specs.State.{State}
+use Rattle.session_poll.specs.State.{State, in_phase}
 use Rattle.session_poll.specs.Steps.{Handles, Refuses, Step}
+use Rattle.vra_syntax.specs.declared.statement.Statement.{Statement}
 
 -- the packet was dropped from what was held, and then its rule was followed
 moved_by : (opening : Opening) (old mid new : Session) (phase : Phase) (input : Input) (rule : State → Course → Type 0) (count : ℕ) → old.phase ≡ phase → ((s : State) (c : Course) → rule s c → Step opening phase input s c) → Drops count old mid → Takes rule mid new → IsReadAs phase input (take count (held_of old)) → Moved opening old new
@@ -90,7 +91,19 @@ message_skipped opening old mid new (Some count) there kind is s t =
 pub message_unread : (opening : Opening) (old mid new : Session) → old.phase ≡ phases.Ready → is_query (front_head (held_of old)) ≡ true → Skips (length_of (front_head (held_of old))) old mid → Takes RunsOut mid new → Moved opening old new
 message_unread opening old mid new is kind s t = message_skipped opening old mid new (length_of (front_head (held_of old))) refl kind is s t
 
--- a Query's end takes no bytes
+-- neither the next statement of a Query nor its end takes bytes
+pub gone_on : (opening : Opening) (old new : Session) (first : Statement) (left : List Statement) → old.phase ≡ phases.Statements first left → Takes (λ s c. RunsStatement opening first left (in_phase phases.Ready s) c) old new → Moved opening old new
+gone_on opening old new first left is t = record {
+  did = record { input = Next; bytes = []; course = t.course };
+  step = subst (λ p. Step opening p Next (state_of old) t.course) (sym is) t.rule_is;
+  read_as = subst (λ p. IsReadAs p Next []) (sym is) refl;
+  held = sym t.keeps.held;
+  state = t.state;
+  put = t.put;
+  over = t.keeps.over;
+  fits = t.fits;
+}
+
 pub query_ended : (opening : Opening) (old new : Session) (complete : Back) → old.phase ≡ phases.Query complete → Takes (EndsQuery complete) old new → Moved opening old new
 query_ended opening old new complete is t = record {
   did = record { input = Next; bytes = []; course = t.course };

@@ -1,7 +1,7 @@
 -- The query rule, part by part.
-use Rattle.std.proofs.Common.{◌≡◌, ◌∙◌, ℕ, true, List, [], ◌∷◌, ◌++◌, inl, inr, ◌⊎◌, Option, Some, None, refl, sym, ap, subst, append_assoc, append-nil}
+use Rattle.std.proofs.Common.{◌≡◌, ◌∙◌, ℕ, true, List, [], ◌∷◌, ◌++◌, inl, inr, ◌⊎◌, Option, Some, None, Ok, Err, refl, sym, ap, subst, append_assoc, append-nil}
 use Rattle.pg_messages.specs.declared.back.Back.{Back}
-use Rattle.session_poll.specs.declared.fixed.TheConstants.{NOT_BUILT, OUT_OF_MEMORY_AND_READY, READY}
+use Rattle.session_poll.specs.declared.fixed.TheConstants.{EMPTY_AND_READY, NOT_BUILT, OUT_OF_MEMORY_AND_READY, READY}
 use Rattle.session_poll.specs.declared.opening.Opening.{Opening}
 use Rattle.session_poll.specs.declared.refusal.Refusal.{Refusal}
 use Rattle.session_poll.specs.declared.refusal.Refusal.TheVariants as refusal
@@ -9,15 +9,17 @@ use Rattle.session_poll.specs.declared.session.Session.{Session}
 use Rattle.session_poll.specs.declared.state.Phase.TheVariants as phases
 use Rattle.session_poll.specs.Begins.{Begins}
 use Rattle.session_poll.specs.Courses.{Course, Follows, Then, goes, both}
-use Rattle.session_poll.specs.Parts.{Keeps, KeepsState, IsReady, IsEnded, Done, Takes, Told, ToldEnd, Failed}
-use Rattle.session_poll.specs.Queries.{IsRead, IsQuery, Queries, Runs, RunsOut, Closes, EndsQuery}
-use Rattle.session_poll.specs.Replies.{spelled, error_of, ready_for_query}
+use Rattle.session_poll.specs.Parts.{Keeps, KeepsState, IsReady, IsEnded, IsTaken, Done, Takes, Told, ToldEnd, Failed}
+use Rattle.session_poll.specs.Queries.{IsRead, Queries, RunsAs, RunsStatement, RunsAll, SaysEmpty, Runs, RunsOut, Closes, EndsQuery}
+use Rattle.session_poll.specs.Replies.{spelled, error_of, empty_query, ready_for_query}
+use Rattle.session_poll.specs.Runs.{HasSnapshot}
 use Rattle.session_poll.specs.Session.{state_of, waiting_of}
 use Rattle.session_poll.specs.StartUps.{Rejects}
-use Rattle.session_poll.specs.State.{State, ready, ended}
-use Rattle.session_poll.specs.Tables.{AnswersTable}
+use Rattle.session_poll.specs.State.{State, in_phase, ready, ended}
+use Rattle.session_poll.specs.Tables.{bare_table, AnswersTable}
+use Rattle.vra_syntax.specs.declared.statement.Statement.{Statement}
 use Rattle.session_poll.proofs.CourseLaws.{put_behind, put_bytes, fit_append, keeps_same, keeps_on, log_closed}
-use Rattle.session_poll.proofs.FixedLaws.{not_built_is, out_of_memory_and_ready_is, ready_is}
+use Rattle.session_poll.proofs.FixedLaws.{empty_and_ready_is, not_built_is, out_of_memory_and_ready_is, ready_is}
 
 pub then_goes : (first second : State → Course → Type 0) (old mid new : Session) (refused : Option Refusal) → Done first old None mid → Done second mid refused new → Done (Then first second) old refused new
 then_goes first second old mid new refused d e = record {
@@ -78,15 +80,60 @@ runs_failed part old mid new why d f =
 pub takes_as : (rule rule' : State → Course → Type 0) (old new : Session) → ((c : Course) → rule (state_of old) c → rule' (state_of old) c) → Takes rule old new → Takes rule' old new
 takes_as rule rule' old new is t = record { course = t.course; rule_is = is t.course t.rule_is; state = t.state; put = t.put; keeps = t.keeps; fits = t.fits }
 
-pub query_run : (opening : Opening) (text name : List ℕ) (old new : Session) → IsRead text (Some name) → Takes (Runs (Then Begins (AnswersTable opening name))) old new → Takes (Queries opening text) old new
-query_run opening text name old new read t =
-    takes_as (Runs (Then Begins (AnswersTable opening name))) (Queries opening text) old new (λ c r. inl (record { read = Some name; is_read = read; course = r })) t
+-- a statement, by whether it is a table's name
+pub runs_table : (opening : Opening) (first : Statement) (left : List Statement) (name : List ℕ) (old new : Session) → bare_table first ≡ Some name → Takes (Runs (Then Begins (AnswersTable opening name left))) old new → Takes (RunsStatement opening first left) old new
+runs_table opening first left name old new is t =
+    takes_as (Runs (Then Begins (AnswersTable opening name left))) (RunsStatement opening first left) old new (λ c r. subst (λ n. RunsAs opening n left (state_of old) c) (sym is) r) t
 
-pub query_rejected : (opening : Opening) (text : List ℕ) (old new : Session) → IsRead text None → Takes Rejects old new → Takes (Queries opening text) old new
-query_rejected opening text old new read t = takes_as Rejects (Queries opening text) old new (λ c r. inl (record { read = None; is_read = read; course = r })) t
+pub runs_other : (opening : Opening) (first : Statement) (left : List Statement) (old new : Session) → bare_table first ≡ None → Takes Rejects old new → Takes (RunsStatement opening first left) old new
+runs_other opening first left old new is t =
+    takes_as Rejects (RunsStatement opening first left) old new (λ c r. subst (λ n. RunsAs opening n left (state_of old) c) (sym is) r) t
 
-pub query_out : (opening : Opening) (text : List ℕ) (old new : Session) → Takes RunsOut old new → Takes (Queries opening text) old new
-query_out opening text old new t = takes_as RunsOut (Queries opening text) old new (λ c r. inr r) t
+-- the statements of a text
+pub runs_first : (opening : Opening) (all : List Statement) (first : Statement) (left : List Statement) (old new : Session) → all ≡ first ∷ left → Takes (RunsStatement opening first left) old new → Takes (RunsAll opening all) old new
+runs_first opening all first left old new is t =
+    takes_as (RunsStatement opening first left) (RunsAll opening all) old new (λ c r. subst (λ l. RunsAll opening l (state_of old) c) (sym is) r) t
+
+pub runs_none : (opening : Opening) (all : List Statement) (old new : Session) → all ≡ [] → Takes SaysEmpty old new → Takes (RunsAll opening all) old new
+runs_none opening all old new is t = takes_as SaysEmpty (RunsAll opening all) old new (λ c r. subst (λ l. RunsAll opening l (state_of old) c) (sym is) r) t
+
+-- the next statement leaves its phase
+pub goes_on : (opening : Opening) (first : Statement) (left : List Statement) (old mid new : Session) → IsTaken old mid → Takes (RunsStatement opening first left) mid new → Takes (λ s c. RunsStatement opening first left (in_phase phases.Ready s) c) old new
+goes_on opening first left old mid new taken t = record {
+  course = t.course;
+  rule_is = subst (λ s. RunsStatement opening first left s t.course) taken.state t.rule_is;
+  state = t.state;
+  put = t.put ∙ ap (λ o. o.bytes ++ spelled t.course.replies) taken.output;
+  keeps = keeps_on old mid new taken.input t.keeps;
+  fits = λ has. t.fits (subst (HasSnapshot 0) (sym (ap (λ (s : State). s.transaction) taken.state)) has);
+}
+
+-- a text, by what it is read as
+pub query_read : (opening : Opening) (text : List ℕ) (statements : List Statement) (old new : Session) → IsRead opening.catalog.features text (Ok statements) → Takes (RunsAll opening statements) old new → Takes (Queries opening text) old new
+query_read opening text statements old new read t =
+    takes_as (RunsAll opening statements) (Queries opening text) old new (λ c r. record { read = Ok statements; is_read = read; course = r }) t
+
+pub query_refused : (opening : Opening) (text : List ℕ) (why : Refusal) (old new : Session) → IsRead opening.catalog.features text (Err why) → Failed why old new → Takes (Queries opening text) old new
+query_refused opening text why old new read f =
+    let c : Course = goes [] (f.message ∷ ready_for_query ∷ []) (ready (state_of old)) in
+    record {
+      course = c;
+      rule_is = record { read = Err why; is_read = read; course = record { message = f.message; told = f.told; course = refl } };
+      state = f.state;
+      put = f.put;
+      keeps = f.keeps;
+      fits = log_closed old new (ready (state_of old)) c f.state refl refl;
+    }
+
+pub said_empty : (old mid new : Session) → IsReady mid new → waiting_of mid ≡ waiting_of old ++ EMPTY_AND_READY.now → KeepsState old mid → Takes SaysEmpty old new
+said_empty old mid new r put keeps = record {
+  course = goes [] (empty_query ∷ ready_for_query ∷ []) (ready (state_of old));
+  rule_is = refl;
+  state = r.state;
+  put = ap (λ o. o.bytes) r.output ∙ put ∙ ap (λ (b : List ℕ). waiting_of old ++ b) empty_and_ready_is;
+  keeps = keeps_on old mid new keeps.input r.input;
+  fits = log_closed old new (ready (state_of old)) (goes [] [] (ready (state_of old))) r.state refl refl;
+}
 
 pub told_error : (why : Refusal) (old mid new : Session) → waiting_of mid ≡ waiting_of old ++ spelled (error_of why ∷ []) → waiting_of new ≡ waiting_of mid ++ READY.now → KeepsState old new → Told why old new
 told_error why old mid new m n keeps = record {

@@ -38,5 +38,6 @@ IsReadAs phases.Start Bad bytes = is_bad (startup_of bytes) ≡ true
 IsReadAs phases.Ready (Message message) bytes = IsFront message bytes
 IsReadAs phases.Ready Unread bytes = IsFrontCut bytes
 IsReadAs phases.Ready Bad bytes = is_bad (front_of bytes) ≡ true
+IsReadAs (phases.Statements first left) Next bytes = bytes ≡ []
 IsReadAs (phases.Query complete) Next bytes = bytes ≡ []
 IsReadAs phase input bytes = ⊥

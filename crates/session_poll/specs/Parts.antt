@@ -5,6 +5,7 @@ use Rattle.session_poll.specs.declared.opening.Opening.{Opening}
 use Rattle.session_poll.specs.declared.refusal.Refusal.{Refusal}
 use Rattle.session_poll.specs.declared.refusal.Refusal.TheVariants as refusal
 use Rattle.session_poll.specs.declared.session.Session.{Session}
+use Rattle.session_poll.specs.declared.state.Phase.TheVariants as phases
 use Rattle.session_poll.specs.Answers.{IsAnswer}
 use Rattle.session_poll.specs.AnswerMessages.{answer_messages, select_complete}
 use Rattle.session_poll.specs.Courses.{Course}
@@ -14,7 +15,7 @@ use Rattle.session_poll.specs.Replies.{spelled, error_of, ready_for_query}
 use Rattle.session_poll.specs.Runs.{AllFit, Did, HasSnapshot}
 use Rattle.session_poll.specs.Session.{state_of, held_of, waiting_of, is_over}
 use Rattle.session_poll.specs.Standing.{works}
-use Rattle.session_poll.specs.State.{State, ready, ended}
+use Rattle.session_poll.specs.State.{State, in_phase, ready, ended}
 use Rattle.session_poll.specs.Steps.{Step}
 use Rattle.vschema.specs.declared.catalog.Table.{Table}
 use Rattle.vtable.specs.declared.table.VTable.{VTable}
@@ -46,6 +47,12 @@ pub record Drops (count : ℕ) (old new : Session) : Type 0 where
 abbrev pub Skips : Option ℕ → Session → Session → Type 0
 Skips None old new = ⊥
 Skips (Some count) old new = (count ≤ length (held_of old)) × Drops count old new
+
+-- the phase was taken out of the session
+pub record IsTaken (old new : Session) : Type 0 where
+  pub state : state_of new ≡ in_phase phases.Ready (state_of old)
+  pub output : new.output ≡ old.output
+  pub input : Keeps old new
 
 -- the state changes and nothing else
 pub record IsReady (old new : Session) : Type 0 where
@@ -128,3 +135,9 @@ pub record PutsAnswer (opening : Opening) (number : ℕ) (table : Table) (comple
   pub is_answer : IsAnswer opening number table answer
   pub follows : complete ≡ select_complete answer
   pub put : waiting_of new ≡ waiting_of old ++ spelled (answer_messages opening.catalog.features answer)
+
+-- an answer to a table and its CommandComplete were put
+pub record PutsAll (opening : Opening) (number : ℕ) (table : Table) (old new : Session) : Type 0 where
+  pub answer : VTable
+  pub is_answer : IsAnswer opening number table answer
+  pub put : waiting_of new ≡ waiting_of old ++ spelled (answer_messages opening.catalog.features answer ++ select_complete answer ∷ [])

@@ -1,55 +1,33 @@
--- The query rule, for a text that is a table's name.
-use Rattle.std.specs.Prelude.{◌≡◌, ℕ, Bool, true, false, ◌&&◌, List, [], ◌∷◌, ◌++◌, map, codes, Option, Some, None, if◌then◌else◌, ◌⊎◌}
-use Rattle.std.specs.Char.{to_ascii_lowercase}
-use Rattle.std.specs.Option.{option_map}
-use Rattle.std.specs.Str.{bytes_eq, IsUtf8}
-use Rattle.feature_expr.specs.Names.{is_name_of}
-use Rattle.feature_expr.specs.Tokens.{AreTokens, bytes_of, is_word, is_mark}
-use Rattle.feature_expr.specs.declared.token.Token.{Token}
+-- The query rule.
+use Rattle.std.specs.Prelude.{◌≡◌, ℕ, false, List, [], ◌∷◌, ◌++◌, Option, Some, None, Result, Ok, Err, ◌⊎◌}
+use Rattle.std.specs.Str.{IsUtf8}
 use Rattle.pg_messages.specs.declared.back.Back.{Back}
+use Rattle.query_parser.specs.Texts.{IsText, IsRefusedText}
 use Rattle.session_poll.specs.declared.opening.Opening.{Opening}
 use Rattle.session_poll.specs.declared.refusal.Refusal.{Refusal}
 use Rattle.session_poll.specs.declared.refusal.Refusal.TheVariants as refusal
 use Rattle.session_poll.specs.Begins.{Begins}
 use Rattle.session_poll.specs.Courses.{Course, Then, goes}
-use Rattle.session_poll.specs.Replies.{error_of, ready_for_query}
+use Rattle.session_poll.specs.Replies.{error_of, empty_query, ready_for_query}
 use Rattle.session_poll.specs.StartUps.{Rejects}
 use Rattle.session_poll.specs.State.{State, ready}
-use Rattle.session_poll.specs.Tables.{AnswersTable}
+use Rattle.session_poll.specs.Tables.{bare_table, AnswersTable}
+use Rattle.vra_syntax.specs.declared.statement.Statement.{Statement}
 
-abbrev pub is_name_token : List ℕ → Token → Bool
-is_name_token text token = is_word token.kind && is_name_of (bytes_of text token)
-
-abbrev pub is_semicolon : List ℕ → Token → Bool
-is_semicolon text token = is_mark token.kind && bytes_eq (bytes_of text token) (codes ";")
-
--- nothing, or one `;`
-abbrev pub is_end : List ℕ → List Token → Bool
-is_end text [] = true
-is_end text (token ∷ []) = is_semicolon text token
-is_end text (token ∷ tokens) = false
-
--- the name of a table, where it is all that stands there but for a `;` behind it
-abbrev pub word_named : List ℕ → List Token → Option (List ℕ)
-word_named text [] = None
-word_named text (token ∷ tokens) = if is_name_token text token && is_end text tokens then Some (bytes_of text token) else None
-
--- the tokens of a text are read as a table's name, whose case doesn't count, or as none
-pub record AreRead (text : List ℕ) (read : Option (List ℕ)) : Type 0 where
-  pub tokens : List Token
-  pub are_tokens : AreTokens text tokens
-  pub named : option_map (map to_ascii_lowercase) (word_named text tokens) ≡ read
-
--- a text is read as a table's name, or as none; one that isn't UTF-8 as none
-abbrev pub IsRead : List ℕ → Option (List ℕ) → Type 0
-IsRead text None = (IsUtf8 text → ⊥) ⊎ AreRead text None
-IsRead text (Some name) = IsUtf8 text × AreRead text (Some name)
+-- What a text is read as: its statements, in which no parameter may stand, or why it has none. One that isn't UTF-8 is
+-- refused for that.
+abbrev pub IsRead : List (List ℕ) → List ℕ → Result (List Statement) Refusal → Type 0
+IsRead features text (Ok statements) = IsUtf8 text × IsText features false text statements
+IsRead features text (Err refusal.NotUtf8) = IsUtf8 text → ⊥
+IsRead features text (Err (refusal.Unparsed why)) = IsUtf8 text × IsRefusedText features false text why
+IsRead features text (Err why) = ⊥
 
 -- the error of a refusal, or that of want of memory
 abbrev pub Tells : Refusal → Back → Type 0
 Tells why message = (message ≡ error_of why) ⊎ (message ≡ error_of refusal.OutOfMemory)
 
--- The error rule in a Query: the error is told, the transaction is dropped, and the Query ends.
+-- The error rule in a Query: the error is told, the transaction is dropped, and the Query ends. The statements that are
+-- left aren't run.
 pub record Fails (why : Refusal) (one c : Course) : Type 0 where
   pub message : Back
   pub told : Tells why message
@@ -65,22 +43,38 @@ pub record Runs (part : State → Course → Type 0) (old : State) (c : Course) 
   pub part_is : part old one
   pub closes : Closes one.refused one c
 
-abbrev pub RunsAs : Opening → Option (List ℕ) → State → Course → Type 0
-RunsAs opening None old c = Rejects old c
-RunsAs opening (Some name) old c = Runs (Then Begins (AnswersTable opening name)) old c
+-- A table is answered in a transaction. Another statement isn't built yet, and no transaction begins for it.
+abbrev pub RunsAs : Opening → Option (List ℕ) → List Statement → State → Course → Type 0
+RunsAs opening None left old c = Rejects old c
+RunsAs opening (Some name) left old c = Runs (Then Begins (AnswersTable opening name left)) old c
 
-pub record IsQuery (opening : Opening) (text : List ℕ) (old : State) (c : Course) : Type 0 where
-  pub read : Option (List ℕ)
-  pub is_read : IsRead text read
-  pub course : RunsAs opening read old c
+-- a statement of a Query, behind which these are left
+abbrev pub RunsStatement : Opening → Statement → List Statement → State → Course → Type 0
+RunsStatement opening first left old c = RunsAs opening (bare_table first) left old c
+
+-- a text without a statement is said to be empty
+abbrev pub SaysEmpty : State → Course → Type 0
+SaysEmpty old c = c ≡ goes [] (empty_query ∷ ready_for_query ∷ []) (ready old)
+
+-- the first statement is run, and the others are left
+abbrev pub RunsAll : Opening → List Statement → State → Course → Type 0
+RunsAll opening [] old c = SaysEmpty old c
+RunsAll opening (first ∷ left) old c = RunsStatement opening first left old c
+
+-- a text that isn't read is refused before anything is run
+abbrev pub AnswersText : Opening → Result (List Statement) Refusal → State → Course → Type 0
+AnswersText opening (Ok statements) old c = RunsAll opening statements old c
+AnswersText opening (Err why) old c = Fails why (goes [] [] old) c
+
+pub record Queries (opening : Opening) (text : List ℕ) (old : State) (c : Course) : Type 0 where
+  pub read : Result (List Statement) Refusal
+  pub is_read : IsRead opening.catalog.features text read
+  pub course : AnswersText opening read old c
 
 -- want of memory stands for the whole message
 abbrev pub RunsOut : State → Course → Type 0
 RunsOut old c = c ≡ goes [] (error_of refusal.OutOfMemory ∷ ready_for_query ∷ []) (ready old)
 
-abbrev pub Queries : Opening → List ℕ → State → Course → Type 0
-Queries opening text old c = IsQuery opening text old c ⊎ RunsOut old c
-
--- The end of a Query whose statement was answered: its transaction ends, and its tag is sent.
+-- The end of a Query whose last statement was answered: its transaction ends, and its tag is sent.
 abbrev pub EndsQuery : Back → State → Course → Type 0
 EndsQuery complete old c = (c ≡ goes [] (complete ∷ ready_for_query ∷ []) (ready old)) ⊎ RunsOut old c

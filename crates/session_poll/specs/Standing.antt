@@ -15,6 +15,7 @@ use Rattle.session_poll.specs.Session.{state_of, held_of, waiting_of, is_over}
 abbrev pub works : Phase → List ℕ → Bool
 works phases.Start held = not (is_more (startup_of held))
 works phases.Ready held = not (is_more (front_of held))
+works (phases.Statements first left) held = true
 works (phases.Query complete) held = true
 works phases.Ended held = false
 

@@ -7,10 +7,10 @@ use Rattle.session_poll.specs.declared.refusal.Refusal.TheVariants as refusal
 use Rattle.session_poll.specs.declared.state.Phase.{Phase}
 use Rattle.session_poll.specs.declared.state.Phase.TheVariants as phases
 use Rattle.session_poll.specs.Courses.{Course, Input, StartUp, Message, Bad, Unread, Next, goes}
-use Rattle.session_poll.specs.Queries.{Queries, EndsQuery, RunsOut}
+use Rattle.session_poll.specs.Queries.{Queries, RunsStatement, EndsQuery, RunsOut}
 use Rattle.session_poll.specs.Replies.{error_of}
 use Rattle.session_poll.specs.StartUps.{StartsUp, Rejects}
-use Rattle.session_poll.specs.State.{State, ended}
+use Rattle.session_poll.specs.State.{State, in_phase, ended}
 
 -- which rule a message has
 abbrev pub Handles : Opening → Front → State → Course → Type 0
@@ -21,8 +21,8 @@ Handles opening front.Terminate old c = c ≡ goes [] [] (ended old)
 abbrev pub Refuses : State → Course → Type 0
 Refuses old c = c ≡ goes [] (error_of refusal.OutOfMemory ∷ []) old
 
--- A packet that is taken unread is answered `out of memory`. What isn't built yet is refused, and ends the session.
--- Nothing else comes.
+-- A packet that is taken unread is answered `out of memory`. What isn't built yet is refused, and ends the session. The
+-- next statement of a Query leaves its phase to be run. Nothing else comes.
 abbrev pub Step : Opening → Phase → Input → State → Course → Type 0
 Step opening phases.Start (StartUp packet) old c = StartsUp opening packet old c
 Step opening phases.Start Unread old c = Refuses old c
@@ -30,5 +30,6 @@ Step opening phases.Start Bad old c = Rejects old c
 Step opening phases.Ready (Message message) old c = Handles opening message old c
 Step opening phases.Ready Unread old c = RunsOut old c
 Step opening phases.Ready Bad old c = Rejects old c
+Step opening (phases.Statements first left) Next old c = RunsStatement opening first left (in_phase phases.Ready old) c
 Step opening (phases.Query complete) Next old c = EndsQuery complete old c
 Step opening phase input old c = ⊥

@@ -12,5 +12,8 @@ pub const OUT_OF_MEMORY_AND_READY: &[u8] =
 pub const NOT_BUILT: &[u8] =
     b"E\x00\x00\x00\x29SFATAL\x00VFATAL\x00C0A000\x00Mnot built yet\x00\x00";
 
+/// An EmptyQueryResponse, and the same behind it.
+pub const EMPTY_AND_READY: &[u8] = b"I\x00\x00\x00\x04Z\x00\x00\x00\x05I";
+
 /// A ReadyForQuery outside of a transaction block.
 pub const READY: &[u8] = b"Z\x00\x00\x00\x05I";

@@ -5,6 +5,7 @@ mod answer;
 mod begin;
 mod fixed;
 mod inbox;
+mod left;
 mod opening;
 mod output;
 mod poll;

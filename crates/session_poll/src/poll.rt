@@ -22,7 +22,7 @@ use pg_messages::{
 };
 
 impl Session {
-    /// Takes at most one packet or one Query's end, and says how the session stands then.
+    /// Takes at most one packet, one more statement of a Query or a Query's end, and says how the session stands then.
     #[tactic(auto, using(crate::proofs::PollLaws::polls_moved, crate::proofs::PollLaws::polls_full))]
     pub fn poll(&mut self, opening: &Opening) -> Polled
         requires { IsServable opening.now }
@@ -37,7 +37,7 @@ impl Session {
     }
 
     /// Takes a step if there is one to take.
-    #[tactic(auto, using(crate::proofs::MoveLaws::query_ended, crate::proofs::MoveLaws::idle_ended))]
+    #[tactic(auto, using(crate::proofs::MoveLaws::gone_on, crate::proofs::MoveLaws::query_ended, crate::proofs::MoveLaws::idle_ended))]
     fn step(&mut self, opening: &Opening) -> bool
         requires ready { self.old.output.is_ready ≡ true }
         requires servable { IsServable opening.now }
@@ -46,6 +46,10 @@ impl Session {
         match &self.phase {
             Phase::Start => self.take_startup(opening),
             Phase::Ready => self.take_message(opening),
+            Phase::Statements(_, _) => {
+                self.go_on(opening);
+                true
+            }
             Phase::Query(_) => {
                 self.end_query();
                 true

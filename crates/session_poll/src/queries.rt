@@ -1,65 +1,125 @@
 //! The query rule.
 
-ghost use Rattle.std.specs.Prelude.{◌≡◌, ◌++◌, [], ◌∷◌, true, None, OnOk, OnErr};
+ghost use Rattle.std.specs.Prelude.{◌≡◌, ◌++◌, [], ◌∷◌, true, None, List as Items, OnOk, OnErr};
 ghost use Rattle.pg_messages.specs.declared.back.Back.{Back};
 ghost use Rattle.session_poll.specs.Begins.{Begins};
 ghost use Rattle.session_poll.specs.Courses.{Then};
-ghost use Rattle.session_poll.specs.Parts.{Done, Takes, Told, ToldEnd, Failed, KeepsState, IsReady, IsEnded};
-ghost use Rattle.session_poll.specs.Queries.{Queries, Runs, RunsOut, EndsQuery};
-ghost use Rattle.session_poll.specs.Replies.{spelled, error_of, ready_for_query};
+ghost use Rattle.session_poll.specs.Parts.{Done, Takes, Told, ToldEnd, Failed, KeepsState, IsReady, IsEnded, IsTaken};
+ghost use Rattle.session_poll.specs.Queries.{Queries, RunsAll, RunsStatement, Runs, RunsOut, SaysEmpty, EndsQuery};
+ghost use Rattle.session_poll.specs.Replies.{spelled, error_of};
 ghost use Rattle.session_poll.specs.Servable.{IsServable};
 ghost use Rattle.session_poll.specs.StartUps.{Rejects};
+ghost use Rattle.session_poll.specs.State.{in_phase};
 ghost use Rattle.session_poll.specs.declared.state.Phase.TheVariants as phases;
 ghost use Rattle.session_poll.specs.Tables.{AnswersTable};
 
-use crate::fixed::{NOT_BUILT, OUT_OF_MEMORY_AND_READY, READY};
+use crate::fixed::{EMPTY_AND_READY, NOT_BUILT, OUT_OF_MEMORY_AND_READY, READY};
+use crate::left::Left;
 use crate::opening::Opening;
-use crate::query::bare_table;
+use crate::query::{bare_table, read};
 use crate::refusal::Refusal;
 use crate::replies::error;
 use crate::session::Session;
 use crate::state::{Phase, Transaction};
-use feature_expr::{Memory, Name, Text};
+use feature_expr::{List, Memory, Name, Text};
+use std::mem;
+use vra_syntax::Statement;
 
 impl Session {
-    /// Runs the text of a Query.
-    #[tactic(auto, using(crate::proofs::QueryLaws::query_run, crate::proofs::QueryLaws::query_rejected, crate::proofs::QueryLaws::query_out))]
+    /// Reads the text of a Query, and runs its first statement.
+    #[tactic(auto, using(crate::proofs::QueryLaws::query_read, crate::proofs::QueryLaws::query_refused))]
     pub fn query(&mut self, text: &Text, opening: &Opening)
         requires ready { self.old.output.is_ready ≡ true }
         requires servable { IsServable opening.now }
         ensures { Takes (Queries opening.now text.now) self.old self.new }
     {
-        match bare_table(self.alloc, text.as_slice()) {
-            Ok(Some(name)) => self.run(name, opening),
-            Ok(None) => self.reject(),
-            Err(Memory) => self.run_out(),
+        match read(self.alloc, text.as_slice(), &opening.catalog.features) {
+            Ok(statements) => self.run_all(statements, opening),
+            Err(why) => self.fail(&why),
+        }
+    }
+
+    /// Runs the first of these statements, and keeps the others. Where there is none, that is told.
+    #[tactic(auto, using(crate::proofs::QueryLaws::runs_first, crate::proofs::QueryLaws::runs_none))]
+    fn run_all(&mut self, statements: List<Statement>, opening: &Opening)
+        requires ready { self.old.output.is_ready ≡ true }
+        requires servable { IsServable opening.now }
+        ensures { Takes (RunsAll opening.now statements) self.old self.new }
+    {
+        let mut left = Left::new(statements);
+        match left.next() {
+            Some(first) => self.run_statement(first, left, opening),
+            None => self.say_empty(),
+        }
+    }
+
+    /// Goes on with the next statement of a Query.
+    #[tactic(auto, using(crate::proofs::QueryLaws::goes_on))]
+    pub fn go_on(&mut self, opening: &Opening)
+        requires ready { self.old.output.is_ready ≡ true }
+        requires servable { IsServable opening.now }
+        ensures { (first : Statement) (left : Items Statement) → self.old.phase ≡ phases.Statements first left → Takes (λ old c. RunsStatement opening.now first left (in_phase phases.Ready old) c) self.old self.new }
+    {
+        if let Phase::Statements(first, left) = self.take_phase() {
+            self.run_statement(first, left, opening);
+        }
+    }
+
+    fn take_phase(&mut self) -> Phase
+        ensures phase { result ≡ self.old.phase }
+        ensures taken { IsTaken self.old self.new }
+    {
+        mem::replace(&mut self.phase, Phase::Ready)
+    }
+
+    /// Runs a statement behind which these are left.
+    #[tactic(auto, using(crate::proofs::QueryLaws::runs_table, crate::proofs::QueryLaws::runs_other))]
+    fn run_statement(&mut self, statement: Statement, left: Left, opening: &Opening)
+        requires ready { self.old.output.is_ready ≡ true }
+        requires servable { IsServable opening.now }
+        ensures { Takes (RunsStatement opening.now statement left) self.old self.new }
+    {
+        match bare_table(statement) {
+            Some(name) => self.run(name, left, opening),
+            None => self.reject(),
         }
     }
 
     #[tactic(auto, using(crate::proofs::QueryLaws::runs_through, crate::proofs::QueryLaws::runs_failed))]
-    fn run(&mut self, name: Name, opening: &Opening)
+    fn run(&mut self, name: Name, left: Left, opening: &Opening)
         requires ready { self.old.output.is_ready ≡ true }
         requires servable { IsServable opening.now }
-        ensures { Takes (Runs (Then Begins (AnswersTable opening.now name))) self.old self.new }
+        ensures { Takes (Runs (Then Begins (AnswersTable opening.now name left))) self.old self.new }
     {
-        if let Some(why) = self.begin_and_answer(name, opening) {
+        if let Some(why) = self.begin_and_answer(name, left, opening) {
             self.fail(&why);
         }
     }
 
     #[tactic(auto, using(crate::proofs::QueryLaws::then_goes, crate::proofs::QueryLaws::then_stops))]
-    fn begin_and_answer(&mut self, name: Name, opening: &Opening) -> Option<Refusal>
+    fn begin_and_answer(&mut self, name: Name, left: Left, opening: &Opening) -> Option<Refusal>
         requires ready { self.old.output.is_ready ≡ true }
         requires servable { IsServable opening.now }
-        ensures { Done (Then Begins (AnswersTable opening.now name)) self.old result self.new }
+        ensures { Done (Then Begins (AnswersTable opening.now name left)) self.old result self.new }
     {
         match self.begin() {
             Some(why) => Some(why),
-            None => self.answer_table(name, opening),
+            None => self.answer_table(name, left, opening),
         }
     }
 
-    /// The error rule in a Query: the error is told, the transaction is dropped, and the Query ends.
+    /// Says that a text has no statement.
+    #[tactic(auto, using(crate::proofs::QueryLaws::said_empty))]
+    fn say_empty(&mut self)
+        requires { self.old.output.is_ready ≡ true }
+        ensures { Takes SaysEmpty self.old self.new }
+    {
+        self.output.put_fixed(EMPTY_AND_READY);
+        self.be_ready();
+    }
+
+    /// The error rule in a Query: the error is told, the transaction is dropped, and the Query ends. The statements that
+    /// are left aren't run.
     #[tactic(auto, using(crate::proofs::QueryLaws::failed))]
     fn fail(&mut self, why: &Refusal)
         requires { self.old.output.is_ready ≡ true }
@@ -111,7 +171,7 @@ impl Session {
         self.end();
     }
 
-    /// The end of a Query whose statement was answered: its transaction ends, and its tag is sent.
+    /// The end of a Query whose last statement was answered: its transaction ends, and its tag is sent.
     #[tactic(auto, using(crate::proofs::QueryLaws::ends_query))]
     pub fn end_query(&mut self)
         requires { self.old.output.is_ready ≡ true }

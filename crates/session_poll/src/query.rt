@@ -1,62 +1,35 @@
-//! Which text of a Query names a bare table.
+//! What a Query's text says.
 
-ghost use Rattle.std.specs.Prelude.{◌≡◌, map, Option, Some, None, IfOk, IfSome, IfNone};
-ghost use Rattle.std.specs.Char.{to_ascii_lowercase};
-ghost use Rattle.std.specs.Option.{option_map};
-ghost use Rattle.session_poll.specs.Queries.{is_name_token, is_semicolon, is_end, word_named, IsRead};
+ghost use Rattle.std.specs.Prelude.{◌≡◌};
+ghost use Rattle.session_poll.specs.Queries.{IsRead};
+ghost use Rattle.session_poll.specs.Tables.{bare_table};
 
-use feature_expr::{Memory, Name, Token, TokenKind, is_name_word, tokens};
+use crate::refusal::Refusal;
+use feature_expr::{Features, List, Name};
+use query_parser::parse;
 use std::alloc::Global;
 use std::str;
+use vra_syntax::Statement;
 
-/// The name of the table where a text is a table's name, and at most one `;` behind it. It is in lower case, since
-/// its case doesn't count.
-pub fn bare_table(alloc: Global, text: &[u8]) -> Result<Option<Name>, Memory>
-    ensures { IfOk result (IsRead text.now) }
+/// The statements of a text, in which no parameter may stand.
+pub fn read(alloc: Global, text: &[u8], features: &Features) -> Result<List<Statement>, Refusal>
+    ensures { IsRead features.now text.now result }
 {
     let Ok(text) = str::from_utf8(text) else {
-        return Ok(None);
+        return Err(Refusal::NotUtf8);
     };
-    let tokens = tokens(alloc, text)?;
-    match word_named(tokens.as_slice(), text.as_bytes()) {
-        Some(word) => {
-            let name = Name::folded(alloc, word)?;
-            Ok(Some(name))
-        }
-        None => Ok(None),
+    match parse(alloc, text, features, false) {
+        Ok(statements) => Ok(statements),
+        Err(why) => Err(Refusal::Unparsed(why)),
     }
 }
 
-/// The one name among the tokens.
-fn word_named<'a>(tokens: &[Token], text: &'a [u8]) -> Option<&'a [u8]>
-    ensures { option_map (λ word. word.now) result ≡ word_named text.now tokens.now }
+/// The name, where a statement's tree is that of a table's name alone.
+pub fn bare_table(statement: Statement) -> Option<Name>
+    ensures { result ≡ bare_table statement }
 {
-    match tokens.split_first() {
-        Some((first, rest)) if is_name(first, text) && is_end(rest, text) => {
-            Some(first.bytes(text))
-        }
+    match statement {
+        Statement::Query(query) => query.into_table(),
         _ => None,
     }
-}
-
-fn is_name(token: &Token, text: &[u8]) -> bool
-    ensures { result ≡ is_name_token text.now token.now }
-{
-    matches!(&token.kind, TokenKind::Word) && is_name_word(token.bytes(text))
-}
-
-/// Whether nothing but at most one `;` is left.
-fn is_end(tokens: &[Token], text: &[u8]) -> bool
-    ensures { result ≡ is_end text.now tokens.now }
-{
-    match tokens.split_first() {
-        Some((token, rest)) => rest.is_empty() && is_semicolon(token, text),
-        None => true,
-    }
-}
-
-fn is_semicolon(token: &Token, text: &[u8]) -> bool
-    ensures { result ≡ is_semicolon text.now token.now }
-{
-    matches!(&token.kind, TokenKind::Sign) && token.bytes(text) == b";".as_slice()
 }

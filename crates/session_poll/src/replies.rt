@@ -1,14 +1,15 @@
 //! The messages that a session sends, as values.
 
-ghost use Rattle.std.specs.Prelude.{◌≡◌, ◌++◌, [], ◌∷◌, codes, IfOk};
+ghost use Rattle.std.specs.Prelude.{◌≡◌, ◌++◌, [], ◌∷◌, codes, decimal, IfOk};
 ghost use Rattle.pg_messages.specs.declared.back.Back.TheVariants as back;
-ghost use Rattle.session_poll.specs.Replies.{error_of, field};
+ghost use Rattle.session_poll.specs.Replies.{error_of, parse_error, field};
 ghost use Rattle.session_poll.specs.Replies as told;
 
 use crate::refusal::Refusal;
 use feature_expr::{List, Memory, Name, Text};
 use itoa::Buffer;
 use pg_messages::{Back, ErrorField};
+use query_parser::ParseRefused;
 use std::alloc::Global;
 
 /// A parameter's value, told to the client.
@@ -36,8 +37,37 @@ pub fn error(alloc: Global, why: &Refusal) -> Result<Back, Memory>
 {
     match why {
         Refusal::NotBuilt => fatal(alloc, b"0A000", b"not built yet"),
+        Refusal::NotUtf8 => refused(alloc, b"22021", b"text is not UTF-8"),
+        Refusal::Unparsed(why) => unparsed(alloc, *why),
         Refusal::UnknownTable(name) => unknown_table(alloc, name),
         Refusal::OutOfMemory => refused(alloc, b"53200", b"out of memory"),
+    }
+}
+
+fn unparsed(alloc: Global, why: ParseRefused) -> Result<Back, Memory>
+    ensures { IfOk result (λ it. it ≡ parse_error why) }
+{
+    match why {
+        ParseRefused::Syntax(place) => refused_at(alloc, b"42601", b"syntax error", place),
+        ParseRefused::UnknownFeature(place) => {
+            refused_at(alloc, b"42704", b"feature is not known", place)
+        }
+        ParseRefused::IntTooLarge(place) => {
+            refused_at(alloc, b"22003", b"integer is out of range", place)
+        }
+        ParseRefused::TooDeep(place) => {
+            refused_at(alloc, b"54001", b"nesting is deeper than 64", place)
+        }
+        ParseRefused::TooManyParams(place) => {
+            refused_at(alloc, b"54000", b"parameter number is above 1024", place)
+        }
+        ParseRefused::NoParam(place) => refused_at(
+            alloc,
+            b"42P02",
+            b"parameters need a prepared statement",
+            place,
+        ),
+        ParseRefused::Memory => refused(alloc, b"53200", b"out of memory"),
     }
 }
 
@@ -57,22 +87,44 @@ fn refused(alloc: Global, code: &[u8], text: &[u8]) -> Result<Back, Memory>
     error_with(alloc, b"ERROR", code, text)
 }
 
+/// An error at a place in the text, the number of a character counted from 1.
+fn refused_at(alloc: Global, code: &[u8], text: &[u8], place: u64) -> Result<Back, Memory>
+    ensures { IfOk result (λ it. it ≡ told.error_at code.now text.now place) }
+{
+    let mut buffer = Buffer::new();
+    let mut fields = error_fields(alloc, b"ERROR", code, text)?;
+    fields.push(error_field(alloc, b'P', buffer.format(place).as_bytes())?)?;
+    Ok(Back::ErrorResponse(List::from_vec(fields)))
+}
+
 fn fatal(alloc: Global, code: &[u8], text: &[u8]) -> Result<Back, Memory>
     ensures { IfOk result (λ it. it ≡ told.error (codes "FATAL") code.now text.now) }
 {
     error_with(alloc, b"FATAL", code, text)
 }
 
-/// An error. The severity stands in it twice, once for clients that translate it.
 fn error_with(alloc: Global, severity: &[u8], code: &[u8], text: &[u8]) -> Result<Back, Memory>
     ensures { IfOk result (λ it. it ≡ told.error severity.now code.now text.now) }
 {
-    let mut fields = Vec::with_capacity(alloc, 4)?;
+    let fields = error_fields(alloc, severity, code, text)?;
+    Ok(Back::ErrorResponse(List::from_vec(fields)))
+}
+
+/// What each error tells. The severity stands in it twice, once for clients that translate it.
+fn error_fields(
+    alloc: Global,
+    severity: &[u8],
+    code: &[u8],
+    text: &[u8],
+) -> Result<Vec<ErrorField>, Memory>
+    ensures { IfOk result (λ it. it.items ≡ told.fields severity.now code.now text.now) }
+{
+    let mut fields = Vec::with_capacity(alloc, 5)?;
     fields.push(error_field(alloc, b'S', severity)?)?;
     fields.push(error_field(alloc, b'V', severity)?)?;
     fields.push(error_field(alloc, b'C', code)?)?;
     fields.push(error_field(alloc, b'M', text)?)?;
-    Ok(Back::ErrorResponse(List::from_vec(fields)))
+    Ok(fields)
 }
 
 fn error_field(alloc: Global, code: u8, text: &[u8]) -> Result<ErrorField, Memory>

@@ -32,7 +32,7 @@ impl Session {
         match &self.phase {
             Phase::Start => decided_startup(self.inbox.bytes()),
             Phase::Ready => decided_front(self.inbox.bytes()),
-            Phase::Query(_) => true,
+            Phase::Statements(_, _) | Phase::Query(_) => true,
             Phase::Ended => false,
         }
     }

@@ -1,4 +1,6 @@
+use crate::left::Left;
 use pg_messages::Back;
+use vra_syntax::Statement;
 
 /// Where a session stands between two messages.
 #[derive(Drop)]
@@ -7,7 +9,10 @@ pub enum Phase {
     Start,
     /// A message may come.
     Ready,
-    /// The statement of a Query was answered, and its CommandComplete and the end of the Query are still to be sent.
+    /// A statement of a Query was answered, and this one and those behind it are still to be run.
+    Statements(Statement, Left),
+    /// The last statement of a Query was answered, and its CommandComplete and the end of the Query are still to be
+    /// sent.
     Query(Back),
     /// Nothing is taken any more.
     Ended,

@@ -194,6 +194,12 @@ fn tables_are_answered_in_table_form(rt: HostRuntime) -> Result<(), Fail> {
 
 /// What a session tells of a Query over a catalogue.
 fn answer_to(alloc: Global, catalogue: &str, query: &str) -> Result<String, Fail> {
+    let bytes = query_reply(alloc, catalogue, query.as_bytes())?;
+    told(alloc, bytes.as_slice())
+}
+
+/// What a session over a catalogue answers to a start-up and a Query.
+fn query_reply(alloc: Global, catalogue: &str, query: &[u8]) -> Result<Vec<u8>, Fail> {
     let (catalog, rows) = parse_catalog(alloc, catalogue.as_bytes())?;
     let model = check_catalog(alloc, &catalog, &rows)?;
     let opening = Opening {
@@ -202,16 +208,15 @@ fn answer_to(alloc: Global, catalogue: &str, query: &str) -> Result<String, Fail
         model,
     };
     let stream = query_stream(alloc, query)?;
-    let bytes = reply(alloc, &opening, stream.as_slice(), 4_096)?;
-    told(alloc, bytes.as_slice())
+    reply(alloc, &opening, stream.as_slice(), 4_096)
 }
 
 /// A start-up, a Query and a Terminate.
-fn query_stream(alloc: Global, query: &str) -> Result<Vec<u8>, Fail> {
+fn query_stream(alloc: Global, query: &[u8]) -> Result<Vec<u8>, Fail> {
     let mut stream = Vec::from_slice(alloc, b"\x00\x00\x00\x10\x00\x03\x00\x00user\x00u\x00\x00Q")?;
     let length = u32::try_from(query.len().saturating_add(5)).map_err(|_| "a short text")?;
     stream.extend_from_slice(&length.to_be_bytes())?;
-    stream.extend_from_slice(query.as_bytes())?;
+    stream.extend_from_slice(query)?;
     stream.extend_from_slice(b"\x00X\x00\x00\x00\x04")?;
     Ok(stream)
 }
@@ -272,5 +277,243 @@ fn end_line(text: &mut String) -> Result<(), Fail> {
         text.truncate(end);
     }
     text.push_str("\n")?;
+    Ok(())
+}
+
+/// The description of `emp`, its rows and its tag.
+const EMP: &[u8] =
+    b"T\x00\x00\x00\x66\x00\x04id\x00\x00\x00\x00\x00\x00\x00\x00\x00\x00\x14\x00\x08\xff\xff\xff\xff\x00\x00name\x00\x00\x00\x00\x00\x00\x00\x00\x00\x00\x19\xff\xff\xff\xff\xff\xff\x00\x00pay when A\x00\x00\x00\x00\x00\x00\x00\x00\x00\x00\x14\x00\x08\xff\xff\xff\xff\x00\x00when\x00\x00\x00\x00\x00\x00\x00\x00\x00\x00\x19\xff\xff\xff\xff\xff\xff\x00\x00D\x00\x00\x00\x20\x00\x04\x00\x00\x00\x011\x00\x00\x00\x03ann\x00\x00\x00\x0210\x00\x00\x00\x04trueD\x00\x00\x00\x1d\x00\x04\x00\x00\x00\x012\x00\x00\x00\x03bob\x00\x00\x00\x0220\x00\x00\x00\x01AD\x00\x00\x00\x1e\x00\x04\x00\x00\x00\x013\x00\x00\x00\x02cy\xff\xff\xff\xff\x00\x00\x00\x05not AC\x00\x00\x00\x0dSELECT 3\x00";
+
+const SNAPSHOT: &[u8] = b"S\x00\x00\x00\x13vdb_snapshot\x000\x00";
+
+const READY: &[u8] = b"Z\x00\x00\x00\x05I";
+
+const EMPTY: &[u8] = b"I\x00\x00\x00\x04";
+
+/// Queries over the small catalogue, and the messages that they are answered.
+const REPLIES: [(&[u8], [&[u8]; 4]); 8] = [
+    (b"", [EMPTY, READY, b"", b""]),
+    (b";", [EMPTY, READY, b"", b""]),
+    (b"emp;", [SNAPSHOT, EMP, READY, b""]),
+    (b"(EMP)", [SNAPSHOT, EMP, READY, b""]),
+    (b"emp; emp", [SNAPSHOT, EMP, EMP, READY]),
+    (
+        b"select from;",
+        [
+            b"E\x00\x00\x00\x2bSERROR\x00VERROR\x00C42601\x00Msyntax error\x00P8\x00\x00",
+            READY,
+            b"",
+            b"",
+        ],
+    ),
+    (
+        b"emp where $1 = 1",
+        [
+            b"E\x00\x00\x00\x2bSERROR\x00VERROR\x00C42601\x00Msyntax error\x00P5\x00\x00",
+            READY,
+            b"",
+            b"",
+        ],
+    ),
+    (
+        b"delete from emp where id = $1",
+        [
+            b"E\x00\x00\x00\x44SERROR\x00VERROR\x00C42P02\x00Mparameters need a prepared statement\x00P28\x00\x00",
+            READY,
+            b"",
+            b"",
+        ],
+    ),
+];
+
+#[test]
+fn queries_are_answered_byte_for_byte(rt: HostRuntime) -> Result<(), Fail> {
+    for (query, messages) in REPLIES {
+        let reply = query_reply(rt.alloc(), SMALL, query)?;
+        let mut wanted = Vec::new(rt.alloc());
+        for message in messages {
+            wanted.extend_from_slice(message)?;
+        }
+        let told = behind_start(rt.alloc(), reply.as_slice())?;
+        assert_eq!(rt; told, wanted.as_slice(), "{query:?}");
+    }
+    Ok(())
+}
+
+/// What is told behind the first ReadyForQuery.
+fn behind_start(alloc: Global, reply: &[u8]) -> Result<&[u8], Fail> {
+    let mut rest = reply;
+    for _ in 0..100 {
+        let Decoded::Whole(back, count) = decode_back(alloc, rest) else {
+            break;
+        };
+        rest = rest.get(count..).ok_or("a message")?;
+        if matches!(&back, Back::ReadyForQuery(_)) {
+            return Ok(rest);
+        }
+    }
+    Err("no ReadyForQuery")?
+}
+
+const TWO: &str = "features A, B; table t (id int8); table u (id int8) when B; row t (id 1);";
+
+/// Queries over the catalogue of the tables `t` and `u`, and each message of their replies: its texts, with a comma
+/// between two, and a semicolon.
+const TOLD: [(&[u8], &str); 27] = [
+    // No statement.
+    (b"-- nothing", "empty; ready; "),
+    (b" ;; -- one\n;\t", "empty; ready; "),
+    // A table, and one in brackets.
+    (
+        b"t; -- the end",
+        "vdb_snapshot, 0; id, when; 1, true; SELECT 1; ready; ",
+    ),
+    (
+        b"(t)",
+        "vdb_snapshot, 0; id, when; 1, true; SELECT 1; ready; ",
+    ),
+    (
+        b"((((((((((((((((((((((((((((((((((((((((((((((((((((((((((((((((t))))))))))))))))))))))))))))))))))))))))))))))))))))))))))))))))",
+        "vdb_snapshot, 0; id, when; 1, true; SELECT 1; ready; ",
+    ),
+    // Several statements, and one snapshot.
+    (
+        b"((t)); T",
+        "vdb_snapshot, 0; id, when; 1, true; SELECT 1; id, when; 1, true; SELECT 1; ready; ",
+    ),
+    (
+        b"t;;u;",
+        "vdb_snapshot, 0; id, when; 1, true; SELECT 1; id when B, when; SELECT 0; ready; ",
+    ),
+    (
+        b"t;t;t",
+        "vdb_snapshot, 0; id, when; 1, true; SELECT 1; id, when; 1, true; SELECT 1; id, when; 1, true; SELECT 1; ready; ",
+    ),
+    // What is behind an error isn't run.
+    (
+        b"v; t",
+        "vdb_snapshot, 0; ERROR, ERROR, 42P01, table v is not known; ready; ",
+    ),
+    (
+        b"t; v; t",
+        "vdb_snapshot, 0; id, when; 1, true; SELECT 1; ERROR, ERROR, 42P01, table v is not known; ready; ",
+    ),
+    // A fault anywhere, before anything is run.
+    (
+        b"t; select from",
+        "ERROR, ERROR, 42601, syntax error, 11; ready; ",
+    ),
+    (b"v; t, t", "ERROR, ERROR, 42601, syntax error, 5; ready; "),
+    (b"select", "ERROR, ERROR, 42601, syntax error, 7; ready; "),
+    (
+        b"t where true",
+        "ERROR, ERROR, 42601, syntax error, 3; ready; ",
+    ),
+    (
+        b"(((((((((((((((((((((((((((((((((((((((((((((((((((((((((((((((((t)))))))))))))))))))))))))))))))))))))))))))))))))))))))))))))))))",
+        "ERROR, ERROR, 54001, nesting is deeper than 64, 65; ready; ",
+    ),
+    (
+        b"select * from t where id = 9223372036854775808",
+        "ERROR, ERROR, 22003, integer is out of range, 28; ready; ",
+    ),
+    (
+        b"choice[C](t, t)",
+        "ERROR, ERROR, 42704, feature is not known, 8; ready; ",
+    ),
+    (
+        b"select * from t where id = $1",
+        "ERROR, ERROR, 42P02, parameters need a prepared statement, 28; ready; ",
+    ),
+    (
+        b"t; delete from t where id = $1025",
+        "ERROR, ERROR, 54000, parameter number is above 1024, 29; ready; ",
+    ),
+    // A place counts characters.
+    (
+        b"t -- \xc3\xa9\n, t",
+        "ERROR, ERROR, 42601, syntax error, 8; ready; ",
+    ),
+    (
+        b"select * from t where id = '\xc3\xa9' x",
+        "ERROR, ERROR, 42601, syntax error, 32; ready; ",
+    ),
+    // Not UTF-8.
+    (b"t \xff", "ERROR, ERROR, 22021, text is not UTF-8; ready; "),
+    (
+        b"t; \xc3(",
+        "ERROR, ERROR, 22021, text is not UTF-8; ready; ",
+    ),
+    // Not built yet, and no transaction begins for it.
+    (b"t union u", "FATAL, FATAL, 0A000, not built yet; "),
+    (b"empty", "FATAL, FATAL, 0A000, not built yet; "),
+    (b"begin; t", "FATAL, FATAL, 0A000, not built yet; "),
+    (
+        b"t; set a to b; t",
+        "vdb_snapshot, 0; id, when; 1, true; SELECT 1; FATAL, FATAL, 0A000, not built yet; ",
+    ),
+];
+
+#[test]
+fn each_query_has_its_reply(rt: HostRuntime) -> Result<(), Fail> {
+    for (query, wanted) in TOLD {
+        let reply = query_reply(rt.alloc(), TWO, query)?;
+        let messages = behind_start(rt.alloc(), reply.as_slice())?;
+        let told = texts_told(rt.alloc(), messages)?;
+        assert_eq!(rt; told.as_str(), wanted, "{query:?}");
+    }
+    Ok(())
+}
+
+fn texts_told(alloc: Global, messages: &[u8]) -> Result<String, Fail> {
+    let mut text = String::new(alloc);
+    let mut rest = messages;
+    for _ in 0..100 {
+        let Decoded::Whole(back, count) = decode_back(alloc, rest) else {
+            return Ok(text);
+        };
+        push_texts(&mut text, &back)?;
+        rest = rest.get(count..).ok_or("a message")?;
+    }
+    Ok(text)
+}
+
+fn push_texts(text: &mut String, back: &Back) -> Result<(), Fail> {
+    match back {
+        Back::ParameterStatus(name, value) => {
+            push_text(text, name)?;
+            push_text(text, value)?;
+        }
+        Back::RowDescription(fields) => {
+            for field in fields.as_slice() {
+                push_text(text, &field.name)?;
+            }
+        }
+        Back::DataRow(cells) => {
+            for cell in cells.as_slice() {
+                push_text(text, cell.as_ref().ok_or("a cell")?)?;
+            }
+        }
+        Back::CommandComplete(tag) => push_text(text, tag)?,
+        Back::ErrorResponse(fields) => {
+            for field in fields.as_slice() {
+                push_text(text, &field.text)?;
+            }
+        }
+        Back::EmptyQueryResponse => text.push_str("empty, ")?,
+        Back::ReadyForQuery(_) => text.push_str("ready, ")?,
+        _ => {}
+    }
+    let end = text.len().saturating_sub(2);
+    if text.is_char_boundary(end) {
+        text.truncate(end);
+    }
+    text.push_str("; ")?;
+    Ok(())
+}
+
+fn push_text(text: &mut String, more: &Text) -> Result<(), Fail> {
+    text.push_str(str::from_utf8(more.as_slice())?)?;
+    text.push_str(", ")?;
     Ok(())
 }

@@ -168,6 +168,7 @@ stands_closed false false true is = absurd (not_closed polled.NeedInput refl is)
 ended_works : (phase : Phase) (held : List ℕ) → is_ended phase ≡ true → works phase held ≡ false
 ended_works phases.Start held is = absurd (true≢false (sym is))
 ended_works phases.Ready held is = absurd (true≢false (sym is))
+ended_works (phases.Statements first left) held is = absurd (true≢false (sym is))
 ended_works (phases.Query complete) held is = absurd (true≢false (sym is))
 ended_works phases.Ended held is = refl
 

@@ -16,31 +16,36 @@ const START_UP: &[u8] = b"\x00\x00\x00\x10\x00\x03\x00\x00user\x00u\x00\x00";
 const READY: &[u8] = b"K\x00\x00\x00\x0c\x00\x00\x00\x01\x00\x00\x00\x00Z\x00\x00\x00\x05I";
 
 /// What a client sends behind the start-up, and what it gets behind that one's reply.
-const REPLIES: [(&[u8], &[u8]); 9] = [
+const REPLIES: [(&[u8], &[u8]); 10] = [
     // An unknown table.
     (
         b"Q\x00\x00\x00\x06u\x00X\x00\x00\x00\x04",
         b"S\x00\x00\x00\x13vdb_snapshot\x000\x00E\x00\x00\x00\x30SERROR\x00VERROR\x00C42P01\x00Mtable u is not known\x00\x00Z\x00\x00\x00\x05I",
     ),
-    // Another text than one name.
+    // Texts that are no statements, and one without a statement.
     (
         b"Q\x00\x00\x00\x09t, t\x00X\x00\x00\x00\x04",
-        b"E\x00\x00\x00\x29SFATAL\x00VFATAL\x00C0A000\x00Mnot built yet\x00\x00",
-    ),
-    (
-        b"Q\x00\x00\x00\x05\x00",
-        b"E\x00\x00\x00\x29SFATAL\x00VFATAL\x00C0A000\x00Mnot built yet\x00\x00",
-    ),
-    (
-        b"Q\x00\x00\x00\x08t;;\x00",
-        b"E\x00\x00\x00\x29SFATAL\x00VFATAL\x00C0A000\x00Mnot built yet\x00\x00",
+        b"E\x00\x00\x00\x2bSERROR\x00VERROR\x00C42601\x00Msyntax error\x00P2\x00\x00Z\x00\x00\x00\x05I",
     ),
     (
         b"Q\x00\x00\x00\x0bselect\x00",
-        b"E\x00\x00\x00\x29SFATAL\x00VFATAL\x00C0A000\x00Mnot built yet\x00\x00",
+        b"E\x00\x00\x00\x2bSERROR\x00VERROR\x00C42601\x00Msyntax error\x00P7\x00\x00Z\x00\x00\x00\x05I",
     ),
     (
         b"Q\x00\x00\x00\x07\xc3\x28\x00",
+        b"E\x00\x00\x00\x2dSERROR\x00VERROR\x00C22021\x00Mtext is not UTF-8\x00\x00Z\x00\x00\x00\x05I",
+    ),
+    (
+        b"Q\x00\x00\x00\x05\x00X\x00\x00\x00\x04",
+        b"I\x00\x00\x00\x04Z\x00\x00\x00\x05I",
+    ),
+    // Behind an error nothing is run.
+    (
+        b"Q\x00\x00\x00\x0eu;begin;t\x00",
+        b"S\x00\x00\x00\x13vdb_snapshot\x000\x00E\x00\x00\x00\x30SERROR\x00VERROR\x00C42P01\x00Mtable u is not known\x00\x00Z\x00\x00\x00\x05I",
+    ),
+    (
+        b"Q\x00\x00\x00\x0cbegin;t\x00",
         b"E\x00\x00\x00\x29SFATAL\x00VFATAL\x00C0A000\x00Mnot built yet\x00\x00",
     ),
     // A message that isn't known yet, and a length that none has.

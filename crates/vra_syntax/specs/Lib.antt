@@ -1,3 +1,4 @@
 pub mod Binding
 pub mod Chains
 pub mod Parameters
+pub mod Tables

@@ -1,4 +1,5 @@
 ghost use Rattle.std.specs.Prelude.{◌≡◌, IfOk};
+ghost use Rattle.vra_syntax.specs.Tables.{table_of};
 
 use crate::cond::Cond;
 use crate::items::Items;
@@ -46,6 +47,18 @@ impl Drop for Query {
                 }
                 Query::Empty => return,
             }
+        }
+    }
+}
+
+impl Query {
+    /// The name, where the query is that of a table alone.
+    pub fn into_table(self) -> Option<Name>
+        ensures { result ≡ table_of self }
+    {
+        match self {
+            Query::Table(name) => Some(name),
+            _other => None,
         }
     }
 }
