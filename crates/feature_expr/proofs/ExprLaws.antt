@@ -6,6 +6,7 @@ use Rattle.feature_expr.specs.declared.parse.Fault.TheVariants as fault
 use Rattle.feature_expr.specs.declared.token.Token.{Token}
 use Rattle.feature_expr.specs.Grammar.{Symbol, Terminal, Nonterminal, AnyOf, Matches, NeverFirst}
 use Rattle.feature_expr.specs.ExprGrammar.{Part, Mark, Own, Disjunction, MoreOr, Conjunction, MoreAnd, Negation, nesting_of, forms, signs_of, sign_at, feature_at, fits, IsRead, IsRefused}
+use Rattle.feature_expr.specs.ExprTexts.{alone, none_fits}
 use Rattle.feature_expr.specs.GrammarLaws.{here, close_sign, close_part}
 use Rattle.feature_expr.specs.ChainForms.{Through, IsChain, through_reaches, through_fault, through_leads, through_through, to_first, to_more, to_item, to_next, ends}
 use Rattle.feature_expr.proofs.NegationLaws.{to_not, to_open, leads_feature, leads_brackets, fault_unclosed, fault_begin, fault_not, fault_open}
@@ -23,7 +24,7 @@ module _ (names : List (List ℕ)) (text : List ℕ) (tokens : List Token) (most
     λ outer fitting limit h below. through_reaches (forms outer limit) (fits fitting text tokens) (signs_of part) part at (signs_of part') part' at' rest (place + 1) (t outer fitting limit (omega (arith, h))) (r.1 outer fitting limit h (deep limit h below)),
   )
   refused_through part at part' at' rest t deep (fault.UnknownFeature place) r =
-      (λ outer fitting. through_reaches (forms outer most) (fits fitting text tokens) (signs_of part) part at (signs_of part') part' at' rest (place + 1) (t outer fitting most (omega arith)) (r.0 outer fitting), r.1, r.2)
+      (λ outer fitting. through_reaches (forms outer most) (fits fitting text tokens) (signs_of part) part at (signs_of part') part' at' rest (place + 1) (t outer fitting most (omega arith)) (r.0 outer fitting), r.1, r.2, let o = (t alone none_fits most (omega arith)).order in omega (arith, o, r.3))
   refused_through part at part' at' rest t deep fault.Memory r = tt
 
   or_never : (outer : ℕ → ℕ → List (List (Symbol Part Mark))) (fitting : ℕ → ℕ → Bool) (limit n : ℕ) (s : List (Symbol Part Mark)) (at to : ℕ) → sign_at text tokens at ≡ sign.And → at < to → NeverFirst (forms outer limit) (fits fitting text tokens) (Own sign.And) s → AnyOf (λ form. Matches (forms outer limit) (fits fitting text tokens) (form ++ s) at to) (forms outer limit (MoreOr n)) → ⊥
@@ -122,4 +123,5 @@ module _ (names : List (List ℕ)) (text : List ℕ) (tokens : List Token) (most
     },
     fit,
     none,
+    omega arith,
   )

@@ -1,21 +1,22 @@
-mod BlankLaws
-mod ChainLaws
-mod ConfigBits
-mod ExprLaws
-mod FeatureLists
-mod KnownLaws
-mod NameLaws
-mod NegationLaws
-mod NestingLaws
-mod OccurringLaws
-mod OneLaws
-mod PlaceLaws
-mod PrintLaws
-mod PrintedLaws
-mod QuoteLaws
-mod ReadingLaws
-mod StandLaws
-mod TextLaws
-mod TokenLaws
-mod WholeLaws
-mod WrittenLaws
+pub mod BlankLaws
+pub mod ChainLaws
+pub mod ConfigBits
+pub mod ExprLaws
+pub mod FeatureLists
+pub mod KnownLaws
+pub mod NameLaws
+pub mod NegationLaws
+pub mod NestingLaws
+pub mod OccurringLaws
+pub mod OneLaws
+pub mod PartLaws
+pub mod PlaceLaws
+pub mod PrintLaws
+pub mod PrintedLaws
+pub mod QuoteLaws
+pub mod ReadingLaws
+pub mod StandLaws
+pub mod TextLaws
+pub mod TokenLaws
+pub mod WholeLaws
+pub mod WrittenLaws

@@ -15,11 +15,11 @@ use Rattle.feature_expr.specs.ExprGrammar.{sign_of_word}
 use Rattle.feature_expr.proofs.StandLaws.{both_true}
 
 -- a word that is no reserved one isn't the one at this place among them
-reserved_false : (name : List ℕ) (place : ℕ) (b : Bool) → place < length RESERVED → same_word_as name (get_or RESERVED place (record { now = [] })).now ≡ b → is_reserved_word name ≡ false → b ≡ false
+pub reserved_false : (name : List ℕ) (place : ℕ) (b : Bool) → place < length RESERVED → same_word_as name (get_or RESERVED place (record { now = [] })).now ≡ b → is_reserved_word name ≡ false → b ≡ false
 reserved_false name place true within same free = cc (free, list_any_at (λ word. same_word_as name word.now) RESERVED place (record { now = [] }) within same)
 reserved_false name place false within same free = refl
 
-not_true : (b : Bool) → not b ≡ true → b ≡ false
+pub not_true : (b : Bool) → not b ≡ true → b ≡ false
 not_true true h = cc h
 not_true false h = refl
 

@@ -1,20 +1,21 @@
 -- What is read within a limit on nesting is printed within it.
-use Rattle.std.proofs.Common.{◌≡◌, ℕ, ◌+◌, ◌<◌, ◌≤◌, true, nat_lt, List, [], ◌∷◌, sym, subst, ap, ◌∙◌, arith}
+use Rattle.std.proofs.Common.{◌≡◌, ◌≢◌, ℕ, ◌+◌, ◌<◌, ◌≤◌, true, nat_lt, List, [], ◌∷◌, refl, sym, subst, ap, ◌∙◌, arith}
 use Rattle.std.proofs.lemmas.Bool.Decides.{nat_tests}
 use Rattle.feature_expr.specs.declared.expr.Expr.{Expr, roll-Expr, map-Expr}
 use Rattle.feature_expr.specs.declared.expr.Expr.TheFolds.{fold-roll-Expr, ind-Expr}
 use Rattle.feature_expr.specs.declared.expr.Expr.TheVariants.{rolls-True, rolls-False, rolls-Feature, rolls-Not, rolls-And, rolls-Or}
 use Rattle.feature_expr.specs.declared.expr.Expr.TheOpen.{Expr-F}
 use Rattle.feature_expr.specs.declared.expr.Expr as e
+use Rattle.feature_expr.specs.declared.parse.Sign.{Sign}
 use Rattle.feature_expr.specs.declared.parse.Sign.TheVariants as sign
 use Rattle.feature_expr.specs.declared.print.Position.{Position}
 use Rattle.feature_expr.specs.declared.print.Position.TheVariants as position
 use Rattle.feature_expr.specs.declared.token.Token.{Token}
-use Rattle.feature_expr.specs.Grammar.{Symbol, Terminal, Nonterminal, Matches, IsFree}
-use Rattle.feature_expr.specs.GrammarLaws.{close_sign}
+use Rattle.feature_expr.specs.Grammar.{Symbol, Terminal, Nonterminal, Matches, NeverFirst, IsFree}
+use Rattle.feature_expr.specs.GrammarLaws.{here, open_sign, close_sign}
 use Rattle.feature_expr.specs.ChainForms.{to_first, to_item, ends}
 use Rattle.feature_expr.specs.Printing.{nesting_step, nesting_at, text_nesting}
-use Rattle.feature_expr.specs.ExprGrammar.{Part, Disjunction, MoreOr, Conjunction, MoreAnd, Negation, Outer, Mark, Own, forms, fits, sign_at, Spells}
+use Rattle.feature_expr.specs.ExprGrammar.{Part, Disjunction, MoreOr, Conjunction, MoreAnd, Negation, Outer, Mark, Own, forms, fits, sign_at, IsRead, Spells}
 use Rattle.feature_expr.specs.ExprTexts.{alone, none_fits, IsViable}
 use Rattle.feature_expr.proofs.ExprLaws.{or_chain, and_chain}
 use Rattle.feature_expr.proofs.NegationLaws.{After, negation_on, never_or, never_and}
@@ -151,3 +152,16 @@ module _ (names : List (List ℕ)) (text : List ℕ) (tokens : List Token) (limi
       let r = onward names text tokens (Disjunction 0) 0 expr end spelled expr expr end (λ h. cc (ends, h)) (no_or 0 end expr (λ h. cc (ends, h))) in
       let k = keeps (Whole (Disjunction 0)) expr 0 expr end r (Terminal (Own sign.End) ∷ []) (end + 1) (omega arith) (end_free names text tokens limit limit) (omega arith) viable in
       omega (arith, k.0)
+
+  -- a sign that is no link begins no link
+  other_first : (end : ℕ) (link : Sign) → sign_at text tokens end ≢ link → NeverFirst (forms alone limit) (fits none_fits text tokens) (Own link) (Terminal (Own (sign_at text tokens end)) ∷ [])
+  other_first end link other at to fit order m = let c = close_sign (forms alone limit) (fits none_fits text tokens) (Own (sign_at text tokens end)) [] at to order m in other (cc (c.0, fit))
+
+  -- so is an expression that stands inside a text
+  pub part_nests_within : (n at : ℕ) (expr : Expr) (end : ℕ) → n ≤ limit → Spells names text tokens (Disjunction n) at expr end → sign_at text tokens end ≢ sign.Or → sign_at text tokens end ≢ sign.And → IsRead text tokens limit (Disjunction n) at end → n + text_nesting expr ≤ limit
+  part_nests_within n at expr end low spelled or and read =
+      let r = onward names text tokens (Disjunction n) at expr end spelled expr expr end and (no_or n end expr or) in
+      let s = Terminal (Own (sign_at text tokens end)) ∷ [] in
+      let on : D s end (end + 1) = open_sign (forms alone limit) (fits none_fits text tokens) (Own (sign_at text tokens end)) [] end (end + 1) refl (here (forms alone limit) (fits none_fits text tokens) [] (end + 1)) in
+      let k = keeps (Whole (Disjunction n)) expr at expr end r s (end + 1) low (other_first end sign.Or or, (other_first end sign.And and, tt)) (omega arith) ((read alone none_fits limit (omega arith)).back s (end + 1) on) in
+      k.0

@@ -24,10 +24,11 @@ use Rattle.feature_expr.specs.ExprGrammar.{Part, Disjunction, Conjunction, Negat
 use Rattle.feature_expr.proofs.NameLaws.{feature_name, name_sign, named_word}
 use Rattle.feature_expr.proofs.PrintLaws.{text_at-True, text_at-False, text_at-Feature, text_at-And, text_at-Or}
 use Rattle.feature_expr.proofs.StandLaws.{EndsWord, TokenIs, Stands, drop_past, word_stands, open_stands, close_stands, space_stands, sign_is}
-use Rattle.feature_expr.proofs.WrittenLaws.{IsWritten, written_true, written_false, written_feature, written_not, written_brackets, written_first_and, written_first_or, written_and, written_or, written_whole}
+use Rattle.feature_expr.proofs.WrittenLaws.{IsWritten, written_true, written_false, written_feature, written_not, written_brackets, written_read, written_first_and, written_first_or, written_and, written_or}
+use Rattle.feature_expr.proofs.TextLaws.{whole}
 
 -- the part that stands at a position
-abbrev part_at : Position → ℕ → Part
+abbrev pub part_at : Position → ℕ → Part
 part_at position.Operand n = Negation n
 part_at position.Conjunct n = Conjunction n
 part_at position.Disjunct n = Disjunction n
@@ -68,10 +69,10 @@ right_of false b h = h
 
 module _ (names : List (List ℕ)) (text : List ℕ) (tokens : List Token) (limit : ℕ) where
   -- a part that is written from a token on and ends at a place of the text
-  record Walked (part : Part) (k : ℕ) (expr : Expr) (b : ℕ) : Type 0 where
-    end : ℕ
-    written : IsWritten names text tokens limit part k expr end
-    stands : Stands text tokens end b
+  pub record Walked (part : Part) (k : ℕ) (expr : Expr) (b : ℕ) : Type 0 where
+    pub end : ℕ
+    pub written : IsWritten names text tokens limit part k expr end
+    pub stands : Stands text tokens end b
 
   -- the words `and` and `or` with their spaces
   between : (k b : ℕ) (word post : List ℕ) → drop b text ≡ 32 ∷ (word ++ 32 ∷ post) → is_word_of word ≡ true → Stands text tokens k b → TokenIs text tokens k kind.Word word × Stands text tokens (k + 1) (b + 1 + length word + 1) × (drop (b + 1 + length word + 1) text ≡ post)
@@ -103,7 +104,7 @@ module _ (names : List (List ℕ)) (text : List ℕ) (tokens : List Token) (limi
       }
 
   -- the text of an expression at a position is the part that stands there
-  abbrev Walks : Expr → Type 0
+  abbrev pub Walks : Expr → Type 0
   Walks expr = (p : Position) (n k b : ℕ) (post : List ℕ) → HasNames names expr → n + nesting_at expr p ≤ limit → drop b text ≡ text_at names expr p ++ post → EndsWord post → Stands text tokens k b → Walked (part_at p n) k expr (b + length (text_at names expr p))
 
   walks_True : Walks e.True
@@ -239,14 +240,18 @@ module _ (names : List (List ℕ)) (text : List ℕ) (tokens : List Token) (limi
   walks_at none (Expr-F.And left right) = subst Walks (sym (rolls-And left.0 right.0)) (walks_And left.0 right.0 left.1 right.1)
   walks_at none (Expr-F.Or left right) = subst Walks (sym (rolls-Or left.0 right.0)) (walks_Or left.0 right.0 left.1 right.1)
 
-  walks : refusal names ≡ None → (expr : Expr) → Walks expr
+  pub walks : refusal names ≡ None → (expr : Expr) → Walks expr
   walks none = ind-Expr Walks (λ x y is. subst (λ z. Walks (roll-Expr z)) is (walks_at none y))
 
-  none_left : (at : ℕ) (ts : List Token) → at ≡ length text → StandAt text at ts → ts ≡ []
+  -- the text of an expression alone is the part that stands there
+  pub walks_text : refusal names ≡ None → (expr : Expr) (n k b : ℕ) (post : List ℕ) → HasNames names expr → n + text_nesting expr ≤ limit → drop b text ≡ text_of names expr ++ post → EndsWord post → Stands text tokens k b → Walked (Disjunction n) k expr (b + length (text_of names expr))
+  walks_text none expr = walks none expr position.Disjunct
+
+  pub none_left : (at : ℕ) (ts : List Token) → at ≡ length text → StandAt text at ts → ts ≡ []
   none_left at [] is stand = refl
   none_left at (t ∷ ts) is stand = absurd (omega (arith, is, stand.0))
 
-  blank_last : blank_end text (length text) ≡ length text
+  pub blank_last : blank_end text (length text) ≡ length text
   unfolding blank_end
   blank_last = rw drop-length (omega arith)
 
@@ -269,6 +274,6 @@ module _ (names : List (List ℕ)) (text : List ℕ) (tokens : List Token) (limi
         are_tokens = are;
         end = w.end;
         ends = ends;
-        viable = written_whole names text tokens limit w.end expr w.written ends;
+        viable = whole names text tokens limit w.end (written_read names text tokens limit 0 0 w.end expr w.written (λ h. cc (ends, h)) (λ h. cc (ends, h))) ends;
         spelled = w.written.spelled;
       }

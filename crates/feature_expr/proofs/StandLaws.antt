@@ -13,7 +13,7 @@ use Rattle.feature_expr.specs.ExprGrammar.{sign_of_kind, sign_at}
 use Rattle.feature_expr.proofs.BlankLaws.{blank_white, blank_stop}
 
 -- the byte at a place
-first_at : (text : List ℕ) (b x : ℕ) (post : List ℕ) → drop b text ≡ x ∷ post → (get_or text b 0 ≡ x) × (b < length text)
+pub first_at : (text : List ℕ) (b x : ℕ) (post : List ℕ) → drop b text ≡ x ∷ post → (get_or text b 0 ≡ x) × (b < length text)
 first_at [] zero x post is = absurd (cc is)
 first_at [] (suc b) x post is = absurd (cc is)
 first_at (y ∷ text) zero x post is = (cc is, omega arith)
@@ -22,13 +22,13 @@ first_at (y ∷ text) (suc b) x post is = let h = first_at text b x post is in (
 pub drop_past : (text : List ℕ) (b : ℕ) (xs post : List ℕ) → drop b text ≡ xs ++ post → drop (b + length xs) text ≡ post
 drop_past text b xs post is = sym (drop-drop (length xs) b text) ∙ (ap (drop (length xs)) is ∙ drop-append_seam xs post)
 
-slice_past : (text : List ℕ) (b : ℕ) (xs post : List ℕ) → drop b text ≡ xs ++ post → slice_range text b (b + length xs) ≡ xs
+pub slice_past : (text : List ℕ) (b : ℕ) (xs post : List ℕ) → drop b text ≡ xs ++ post → slice_range text b (b + length xs) ≡ xs
 slice_past text b xs post is =
     let size : (b + length xs) - b ≡ length xs = omega arith in
     rw (size, is) (take-append_seam xs post)
 
 -- a byte that begins a word is no blank
-starts_plain : (x : ℕ) → starts_word x ≡ true → (is_white x ≡ false) × ((x == 45) ≡ false)
+pub starts_plain : (x : ℕ) → starts_word x ≡ true → (is_white x ≡ false) × ((x == 45) ≡ false)
 starts_plain x h = (grind (arith, nat_tests), grind (arith, nat_tests))
 
 pub starts_on : (x : ℕ) → starts_word x ≡ true → continues_word x ≡ true
@@ -43,13 +43,13 @@ both_true true true h = (refl, refl)
 both_true true false h = absurd (cc h)
 both_true false b h = absurd (cc h)
 
-prefix_word : (word post : List ℕ) → list_all continues_word word ≡ true → EndsWord post → prefix_len continues_word (word ++ post) ≡ length word
+pub prefix_word : (word post : List ℕ) → list_all continues_word word ≡ true → EndsWord post → prefix_len continues_word (word ++ post) ≡ length word
 prefix_word [] post all ends = ends
 prefix_word (x ∷ word) post all ends =
     let parts : (continues_word x ≡ true) × (list_all continues_word word ≡ true) = both_true (continues_word x) (list_all continues_word word) all in
     rw parts.0 (omega (arith, prefix_word word post parts.1 ends))
 
-scanned_word : (text : List ℕ) (b : ℕ) → starts_word (get_or text b 0) ≡ true → scanned_at text b ≡ scanned kind.Word (run_end continues_word text b)
+pub scanned_word : (text : List ℕ) (b : ℕ) → starts_word (get_or text b 0) ≡ true → scanned_at text b ≡ scanned kind.Word (run_end continues_word text b)
 unfolding scanned_at
 scanned_word text b h = rw h refl
 
@@ -81,7 +81,7 @@ split_at (y ∷ tokens) zero t ts is = (cc is, omega arith, cc is)
 split_at (y ∷ tokens) (suc k) t ts is = let h = split_at tokens k t ts is in (h.0, omega (arith, h.1), h.2)
 
 -- no fault
-abbrev IsGood : TokenKind → Type 0
+abbrev pub IsGood : TokenKind → Type 0
 IsGood kind.Bad = ⊥
 IsGood _ = Unit {0}
 
@@ -94,7 +94,7 @@ good_rest (kind.Param n) X Y good rest = rest
 good_rest kind.Sign X Y good rest = rest
 
 -- a token that is known is the next one
-token_next : (text : List ℕ) (tokens : List Token) (k b : ℕ) (kind : TokenKind) (piece post : List ℕ) (ts : List Token) → drop k tokens ≡ ts → IsGood kind → drop b text ≡ piece ++ post → b < length text → scanned_at text b ≡ scanned kind (b + length piece) → StandAt text b ts → TokenIs text tokens k kind piece × Stands text tokens (k + 1) (b + length piece)
+pub token_next : (text : List ℕ) (tokens : List Token) (k b : ℕ) (kind : TokenKind) (piece post : List ℕ) (ts : List Token) → drop k tokens ≡ ts → IsGood kind → drop b text ≡ piece ++ post → b < length text → scanned_at text b ≡ scanned kind (b + length piece) → StandAt text b ts → TokenIs text tokens k kind piece × Stands text tokens (k + 1) (b + length piece)
 token_next text tokens k b kind piece post [] split good is within scan stand = absurd (omega (arith, within, stand))
 token_next text tokens k b kind piece post (t ∷ ts) split good is within scan stand =
     let parts = split_at tokens k t ts split in
@@ -109,7 +109,7 @@ token_next text tokens k b kind piece post (t ∷ ts) split good is within scan 
 blank_here : (text : List ℕ) (b x : ℕ) (post : List ℕ) → drop b text ≡ x ∷ post → is_white x ≡ false → (x == 45) ≡ false → blank_end text b ≡ b
 blank_here text b x post is white dash = let h = first_at text b x post is in blank_stop text b (rw h.0 white) (rw (h.0, dash) refl)
 
-token_here : (text : List ℕ) (tokens : List Token) (k b x : ℕ) (kind : TokenKind) (xs post : List ℕ) → IsGood kind → drop b text ≡ (x ∷ xs) ++ post → is_white x ≡ false → (x == 45) ≡ false → scanned_at text b ≡ scanned kind (b + length (x ∷ xs)) → Stands text tokens k b → TokenIs text tokens k kind (x ∷ xs) × Stands text tokens (k + 1) (b + length (x ∷ xs))
+pub token_here : (text : List ℕ) (tokens : List Token) (k b x : ℕ) (kind : TokenKind) (xs post : List ℕ) → IsGood kind → drop b text ≡ (x ∷ xs) ++ post → is_white x ≡ false → (x == 45) ≡ false → scanned_at text b ≡ scanned kind (b + length (x ∷ xs)) → Stands text tokens k b → TokenIs text tokens k kind (x ∷ xs) × Stands text tokens (k + 1) (b + length (x ∷ xs))
 token_here text tokens k b x kind xs post good is white dash scan s =
     token_next text tokens k b kind (x ∷ xs) post (drop k tokens) refl good is (first_at text b x (xs ++ post) is).1 scan (rw (blank_here text b x (xs ++ post) is white dash) at s.stand)
 

@@ -130,7 +130,7 @@ module _ (text : List ℕ) (tokens : List Token) where
 
 module _ (names : List (List ℕ)) (text : List ℕ) (tokens : List Token) where
   -- what is spelled has known features alone
-  known_spelled : (part : Part) (at : ℕ) (expr : Expr) (end : ℕ) → Spells names text tokens part at expr end → AreKnown names text tokens at end
+  pub known_spelled : (part : Part) (at : ℕ) (expr : Expr) (end : ℕ) → Spells names text tokens part at expr end → AreKnown names text tokens at end
   known_spelled p a x z (one_conjunction n at end expr d) = known_spelled (Conjunction n) at expr end d
   known_spelled p a x z (disjunction n at middle end left right d is d') =
       known_join names text tokens at middle end (known_spelled (Disjunction n) at left middle d) (known_join names text tokens middle (middle + 1) end (known_other names text tokens middle (λ e. cc (is, e))) (known_spelled (Conjunction n) (middle + 1) right end d'))

@@ -120,7 +120,7 @@ IsRefused names text tokens most part at (fault.TooDeep place) =
     ((outer : ℕ → ℕ → List (List (Symbol Part Mark))) (fitting : ℕ → ℕ → Bool) → FaultAt (forms outer most) (fits fitting text tokens) (signs_of part) part at place)
     × ((outer : ℕ → ℕ → List (List (Symbol Part Mark))) (fitting : ℕ → ℕ → Bool) (limit : ℕ) → most < limit → nesting_of part < limit → Reaches (forms outer limit) (fits fitting text tokens) part at (place + 1))
 IsRefused names text tokens most part at (fault.UnknownFeature place) =
-    ((outer : ℕ → ℕ → List (List (Symbol Part Mark))) (fitting : ℕ → ℕ → Bool) → Reaches (forms outer most) (fits fitting text tokens) part at (place + 1)) × (sign_at text tokens place ≡ sign.Feature) × (feature_at names text tokens place ≡ None)
+    ((outer : ℕ → ℕ → List (List (Symbol Part Mark))) (fitting : ℕ → ℕ → Bool) → Reaches (forms outer most) (fits fitting text tokens) part at (place + 1)) × (sign_at text tokens place ≡ sign.Feature) × (feature_at names text tokens place ≡ None) × (at ≤ place)
 IsRefused names text tokens most part at fault.Memory = Unit {0}
 
 -- every feature that is named from one place up to another is known

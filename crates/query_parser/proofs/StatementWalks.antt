@@ -175,14 +175,14 @@ module _ (text : List ℕ) (tokens : List Token) where
   abbrev pub QueryFirst : ℕ → Type 0
   QueryFirst at = (Takes text tokens 12 at) ⊎ ((Takes text tokens 100 at) ⊎ ((Takes text tokens 13 at) ⊎ ((Takes text tokens 33 at) ⊎ (Takes text tokens 14 at))))
 
-  first_isnt : (other at : ℕ) → apart 12 other ≡ true → apart 100 other ≡ true → apart 13 other ≡ true → apart 33 other ≡ true → apart 14 other ≡ true → QueryFirst at → takes other (lexeme_at text tokens at) ≡ false
+  pub first_isnt : (other at : ℕ) → apart 12 other ≡ true → apart 100 other ≡ true → apart 13 other ≡ true → apart 33 other ≡ true → apart 14 other ≡ true → QueryFirst at → takes other (lexeme_at text tokens at) ≡ false
   first_isnt other at a b c d e (inl i) = isnt 12 other at a i
   first_isnt other at a b c d e (inr (inl i)) = isnt 100 other at b i
   first_isnt other at a b c d e (inr (inr (inl i))) = isnt 13 other at c i
   first_isnt other at a b c d e (inr (inr (inr (inl i)))) = isnt 33 other at d i
   first_isnt other at a b c d e (inr (inr (inr (inr i)))) = isnt 14 other at e i
 
-  begins_query : (at : ℕ) → QueryFirst at → BeginsQuery text tokens at
+  pub begins_query : (at : ℕ) → QueryFirst at → BeginsQuery text tokens at
   begins_query at f = record {
     not_begin = first_isnt 5 at refl refl refl refl refl f;
     not_commit = first_isnt 6 at refl refl refl refl refl f;
@@ -199,7 +199,7 @@ module _ (text : List ℕ) (tokens : List Token) where
   some_names at columns end (another_name before place name b i named) = let more = one_more before name in omega (arith, more)
 
 module _ (with_params : Bool) (names : List (List ℕ)) (text : List ℕ) (tokens : List Token) where
-  query_first : (part : spelled.QueryPart) (at : ℕ) (q : Query) (end : ℕ) → SpellsQuery with_params names text tokens part at q end → QueryFirst text tokens at
+  pub query_first : (part : spelled.QueryPart) (at : ℕ) (q : Query) (end : ℕ) → SpellsQuery with_params names text tokens part at q end → QueryFirst text tokens at
   query_first part at q end (one_term n from inner last r) = query_first (spelled.Term n) at inner end r
   query_first part at q end (union_term n from left right middle last l i r) = query_first (QueryChain n) at left middle l
   query_first part at q end (except_term n from left right middle last l i r) = query_first (QueryChain n) at left middle l

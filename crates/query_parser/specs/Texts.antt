@@ -1,5 +1,5 @@
 -- Texts that are statements, and why others aren't.
-use Rattle.std.specs.Prelude.{Bool, ◌≡◌, ℕ, ◌+◌, List, length}
+use Rattle.std.specs.Prelude.{Bool, ◌≡◌, ◌≢◌, ℕ, ◌+◌, List, length, Result, Ok, Err}
 use Rattle.feature_expr.specs.Tokens.{AreTokens, place_at}
 use Rattle.feature_expr.specs.declared.token.Token.{Token}
 use Rattle.vra_syntax.specs.declared.statement.Statement.{Statement}
@@ -41,3 +41,13 @@ pub record Refusal (names : List (List ℕ)) (with_params : Bool) (text : List �
 abbrev pub IsRefusedText : List (List ℕ) → Bool → List ℕ → ParseRefused → Type 0
 IsRefusedText names with_params text refused.Memory = Unit {0}
 IsRefusedText names with_params text why = Refusal names with_params text why
+
+-- the answer is these statements, or memory ran out
+abbrev pub Gives : List Statement → Result (List Statement) ParseRefused → Type 0
+Gives statements (Ok found) = found ≡ statements
+Gives statements (Err why) = why ≡ refused.Memory
+
+-- the answer is this refusal, or memory ran out
+abbrev pub GivesFault : ParseRefused → Result (List Statement) ParseRefused → Type 0
+GivesFault why (Ok found) = ⊥
+GivesFault why (Err found) = found ≢ refused.Memory → found ≡ why

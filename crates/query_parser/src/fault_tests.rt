@@ -2,19 +2,12 @@ use crate::refused::ParseRefused;
 use crate::texts::parse;
 use feature_expr::{Features, List, Name};
 use std::alloc::Global;
+use std::process::Abort;
 use std::test::Fail;
 
 /// Texts without parameters, and their first faults. The features are A and B.
-const FIRST_FAULT: [(&str, ParseRefused); 94] = [
+const SELECTS: [(&str, ParseRefused); 21] = [
     ("select from;", ParseRefused::Syntax(8)),
-    ("select * from emp where id =", ParseRefused::Syntax(29)),
-    ("emp where $1 = 1", ParseRefused::Syntax(5)),
-    ("emp emp", ParseRefused::Syntax(5)),
-    (", emp", ParseRefused::Syntax(1)),
-    ("emp , dept", ParseRefused::Syntax(5)),
-    ("1", ParseRefused::Syntax(1)),
-    ("'emp'", ParseRefused::Syntax(1)),
-    ("create", ParseRefused::Syntax(1)),
     ("select *, id from emp", ParseRefused::Syntax(9)),
     ("select id name from emp", ParseRefused::Syntax(11)),
     ("select id, from emp", ParseRefused::Syntax(12)),
@@ -44,12 +37,30 @@ const FIRST_FAULT: [(&str, ParseRefused); 94] = [
     ("select id from emp as select", ParseRefused::Syntax(23)),
     ("select id from emp as a.b", ParseRefused::Syntax(24)),
     (
-        "select id from emp join dept where true",
-        ParseRefused::Syntax(30),
-    ),
-    (
         "select id from emp join dept on true on true",
         ParseRefused::Syntax(38),
+    ),
+    ("select $1 from emp", ParseRefused::Syntax(8)),
+    (
+        "select id when C and D from emp",
+        ParseRefused::UnknownFeature(16),
+    ),
+    (
+        "select id when C and from emp",
+        ParseRefused::UnknownFeature(16),
+    ),
+];
+
+#[test]
+fn a_select_is_refused_for_its_first_fault(rt: HostRuntime) -> Result<(), Fail> {
+    are_refused(&rt, rt.alloc(), &SELECTS)
+}
+
+const CONDITIONS: [(&str, ParseRefused); 20] = [
+    ("select * from emp where id =", ParseRefused::Syntax(29)),
+    (
+        "select id from emp join dept where true",
+        ParseRefused::Syntax(30),
     ),
     ("select id from emp where", ParseRefused::Syntax(25)),
     ("select id from emp where id", ParseRefused::Syntax(28)),
@@ -104,11 +115,22 @@ const FIRST_FAULT: [(&str, ParseRefused); 94] = [
         "select id from emp where id = $01",
         ParseRefused::Syntax(31),
     ),
-    ("select $1 from emp", ParseRefused::Syntax(8)),
     (
         "select id from emp where id = 'it''s",
         ParseRefused::Syntax(31),
     ),
+];
+
+#[test]
+fn a_condition_is_refused_for_its_first_fault(rt: HostRuntime) -> Result<(), Fail> {
+    are_refused(&rt, rt.alloc(), &CONDITIONS)
+}
+
+const QUERIES: [(&str, ParseRefused); 17] = [
+    ("emp where $1 = 1", ParseRefused::Syntax(5)),
+    ("emp emp", ParseRefused::Syntax(5)),
+    (", emp", ParseRefused::Syntax(1)),
+    ("emp , dept", ParseRefused::Syntax(5)),
     ("choice (emp, dept)", ParseRefused::Syntax(8)),
     ("choice [](emp, dept)", ParseRefused::Syntax(9)),
     ("choice [A(emp, dept)", ParseRefused::Syntax(10)),
@@ -124,6 +146,18 @@ const FIRST_FAULT: [(&str, ParseRefused); 94] = [
     ("emp union", ParseRefused::Syntax(10)),
     ("emp except (dept", ParseRefused::Syntax(17)),
     ("()", ParseRefused::Syntax(2)),
+    (
+        "choice [C or (A B)] (emp, dept)",
+        ParseRefused::UnknownFeature(9),
+    ),
+];
+
+#[test]
+fn a_query_is_refused_for_its_first_fault(rt: HostRuntime) -> Result<(), Fail> {
+    are_refused(&rt, rt.alloc(), &QUERIES)
+}
+
+const WRITES: [(&str, ParseRefused); 22] = [
     ("insert emp (id) values (1)", ParseRefused::Syntax(8)),
     (
         "insert into values (id) values (1)",
@@ -181,6 +215,21 @@ const FIRST_FAULT: [(&str, ParseRefused); 94] = [
         "update emp set id = -99999999999999999999 where",
         ParseRefused::IntTooLarge(21),
     ),
+    (
+        "insert into emp (id) values (1) when C or",
+        ParseRefused::UnknownFeature(38),
+    ),
+];
+
+#[test]
+fn a_write_is_refused_for_its_first_fault(rt: HostRuntime) -> Result<(), Fail> {
+    are_refused(&rt, rt.alloc(), &WRITES)
+}
+
+const STATEMENTS: [(&str, ParseRefused); 14] = [
+    ("1", ParseRefused::Syntax(1)),
+    ("'emp'", ParseRefused::Syntax(1)),
+    ("create", ParseRefused::Syntax(1)),
     ("begin commit", ParseRefused::Syntax(7)),
     ("commit transaction work", ParseRefused::Syntax(20)),
     ("set 1 to 2", ParseRefused::Syntax(5)),
@@ -198,30 +247,18 @@ const FIRST_FAULT: [(&str, ParseRefused); 94] = [
         "-- é\nselect * from emp where name = 'é' name",
         ParseRefused::Syntax(41),
     ),
-    (
-        "select id when C and D from emp",
-        ParseRefused::UnknownFeature(16),
-    ),
-    (
-        "select id when C and from emp",
-        ParseRefused::UnknownFeature(16),
-    ),
-    (
-        "choice [C or (A B)] (emp, dept)",
-        ParseRefused::UnknownFeature(9),
-    ),
-    (
-        "insert into emp (id) values (1) when C or",
-        ParseRefused::UnknownFeature(38),
-    ),
 ];
 
 #[test]
 fn a_text_is_refused_for_its_first_fault(rt: HostRuntime) -> Result<(), Fail> {
-    let alloc = rt.alloc();
-    for (text, wanted) in FIRST_FAULT {
-        let refused = parse(alloc, text, &features(alloc)?, false).err();
-        assert_eq!(rt; refused, Some(wanted), "{text}");
+    are_refused(&rt, rt.alloc(), &STATEMENTS)
+}
+
+fn are_refused(rt: &impl Abort, alloc: Global, cases: &[(&str, ParseRefused)]) -> Result<(), Fail> {
+    let features = features(alloc)?;
+    for (text, wanted) in cases {
+        let refused = parse(alloc, text, &features, false).err();
+        assert_eq!(rt; refused, Some(*wanted), "{text}");
     }
     Ok(())
 }

@@ -1,12 +1,15 @@
 //! The texts of statements: reading and printing them.
 #![tactic(auto)]
 
+#[cfg(test)]
+mod chain_tests;
 mod clauses;
 mod conditions;
 mod fault;
 #[cfg(test)]
 mod fault_tests;
 mod items;
+mod laws;
 mod lexeme;
 mod parsing;
 mod print;
@@ -28,6 +31,7 @@ mod words;
 mod writes;
 
 pub use fault::ParseFault;
+pub use laws::statement_laws;
 pub use print::print_statement;
 pub use refused::ParseRefused;
 pub use texts::parse;

@@ -14,7 +14,7 @@ use vra_syntax::{
     query_union,
 };
 
-const QUERIES: [(&str, &str); 37] = [
+const QUERIES: [(&str, &str); 25] = [
     ("t", "t"),
     ("e", "empty"),
     ("tTS", "select * from t"),
@@ -40,6 +40,10 @@ const QUERIES: [(&str, &str); 37] = [
     ("tuUvTSC", "choice [A] (t union u, select * from v)"),
     ("tuCvU", "choice [A] (t, u) union v"),
     ("tuC1S", "select * from choice [A] (t, u) where x = 1"),
+];
+
+/// Selects with aliases and joins.
+const SOURCES: [(&str, &str); 12] = [
     ("tNTS", "select * from t as n"),
     ("tuUNTS", "select * from (t union u) as n"),
     ("t1SNTS", "select * from (select * from t where x = 1) as n"),
@@ -116,11 +120,19 @@ const WRITES: [(&str, &str); 12] = [
 
 #[test]
 fn queries_are_printed(rt: HostRuntime) -> Result<(), Fail> {
-    let alloc = rt.alloc();
+    are_printed(&rt, rt.alloc(), &QUERIES)
+}
+
+#[test]
+fn sources_are_printed(rt: HostRuntime) -> Result<(), Fail> {
+    are_printed(&rt, rt.alloc(), &SOURCES)
+}
+
+fn are_printed(rt: &impl Abort, alloc: Global, cases: &[(&str, &str)]) -> Result<(), Fail> {
     let features = features(alloc)?;
-    for (letters, wanted) in QUERIES {
+    for (letters, wanted) in cases {
         let statement = Statement::Query(query(alloc, letters)?);
-        is_printed(&rt, alloc, &statement, &features, wanted)?;
+        is_printed(rt, alloc, &statement, &features, wanted)?;
     }
     Ok(())
 }
@@ -158,39 +170,6 @@ fn a_statement_without_features_is_printed(rt: HostRuntime) -> Result<(), Fail> 
     let features = features(alloc)?;
     let printed = print_statement(alloc, &Statement::Begin, &features)?;
     assert_eq!(rt; str::from_utf8(printed.as_slice())?, "begin");
-    Ok(())
-}
-
-/// How many links the chains have.
-const LINKS: usize = 150_000;
-
-#[test]
-fn a_chain_of_queries_takes_no_stack(rt: HostRuntime) -> Result<(), Fail> {
-    let alloc = rt.alloc();
-    let features = features(alloc)?;
-    let mut whole = query(alloc, "t")?;
-    for _ in 0..LINKS {
-        let right = query(alloc, "u")?;
-        whole = query_union(alloc, whole, right)?;
-    }
-    let mut text = Vec::new(alloc);
-    print_into(alloc, &Statement::Query(whole), &features, &mut text)?;
-    assert_eq!(rt; text.len(), 1 + LINKS * 8);
-    Ok(())
-}
-
-#[test]
-fn a_chain_of_conditions_takes_no_stack(rt: HostRuntime) -> Result<(), Fail> {
-    let alloc = rt.alloc();
-    let features = features(alloc)?;
-    let mut whole = Cond::False;
-    for _ in 0..LINKS {
-        whole = cond_or(alloc, whole, Cond::True)?;
-    }
-    let statement = Statement::Write(Write::Delete(name(alloc, "t")?, whole, Expr::True));
-    let mut text = Vec::new(alloc);
-    print_into(alloc, &statement, &features, &mut text)?;
-    assert_eq!(rt; text.len(), 25 + LINKS * 8);
     Ok(())
 }
 

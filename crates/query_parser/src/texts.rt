@@ -1,5 +1,9 @@
-ghost use Rattle.std.specs.Prelude.{◌≡◌, IfOk, IfErr};
-ghost use Rattle.query_parser.specs.Texts.{IsText, IsRefusedText, placed_at};
+ghost use Rattle.std.specs.Prelude.{◌≡◌, ◌≢◌, ℕ, List as ListOf, [], ◌∷◌, ◌++◌, IfOk, IfErr};
+ghost use Rattle.query_parser.specs.Printing.{text_of};
+ghost use Rattle.query_parser.specs.Texts.{IsText, IsRefusedText, Gives, GivesFault, placed_at};
+ghost use Rattle.query_parser.specs.declared.refused.ParseRefused.{ParseRefused as Why};
+ghost use Rattle.query_parser.specs.declared.refused.ParseRefused.TheVariants as refused;
+ghost use Rattle.vra_syntax.specs.declared.statement.Statement.{Statement as Parsed};
 
 use crate::fault::ParseFault;
 use crate::lexeme::NESTING_LIMIT;
@@ -12,7 +16,7 @@ use vra_syntax::Statement;
 
 /// The statements of a text, which may name these features. Each level of nesting takes some hundred bytes of the
 /// stack.
-#[tactic(auto, using(crate::proofs::ParseLaws::is_text, crate::proofs::ParseLaws::is_refused))]
+#[tactic(auto, using(crate::proofs::ParseLaws::is_text, crate::proofs::ParseLaws::is_refused, crate::proofs::TextLaws::gives_found, crate::proofs::TextLaws::gives_refused, crate::proofs::TextLaws::fault_found, crate::proofs::TextLaws::fault_refused))]
 pub fn parse(
     alloc: Global,
     text: &str,
@@ -21,7 +25,12 @@ pub fn parse(
 ) -> Result<List<Statement>, ParseRefused>
     ensures ok { IfOk result (IsText features.now with_params text.now) }
     ensures err { IfErr result (IsRefusedText features.now with_params text.now) }
+    ensures read { (all : ListOf Parsed) → IsText features.now with_params text.now all → Gives all result }
+    ensures refused { (why : Why) → IsRefusedText features.now with_params text.now why → why ≢ refused.Memory → GivesFault why result }
+    ensures printed { (origin : ListOf ℕ) (before after : ListOf Parsed) (s : Parsed) → IsText features.now with_params origin (before ++ s ∷ after) → text.now ≡ text_of features.now s → Gives (s ∷ []) result }
 {
+    // The count shows that the names are those of features, so that each is read as its own feature.
+    let _names = features.count();
     let tokens = match tokens(alloc, text) {
         Ok(tokens) => tokens,
         Err(Memory) => return Err(ParseRefused::Memory),
