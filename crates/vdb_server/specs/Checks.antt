@@ -27,6 +27,22 @@ pub record IsCheckedFile (files : Files) (name : List ℕ) (catalog : Catalog) (
   pub spelled : IsCatalogue bytes catalog rows
   pub passes : Passes catalog rows
 
+-- bytes that are a catalogue with opening rows that passes its check
+pub record ArePassing (bytes : List ℕ) : Type 0 where
+  pub catalog : Catalog
+  pub rows : List OpeningRow
+  pub spelled : IsCatalogue bytes catalog rows
+  pub passes : Passes catalog rows
+
+-- Nothing stands in the way of a command: no count of faults rises, the files are within the limit, and what the
+-- catalogue's file is told to hold is a catalogue that passes its check.
+pub record IsReady (before after : Files) (catalogue stream : List ℕ) (out out' : Held) : Type 0 where
+  pub read : Rose before.faults after.faults → ⊥
+  pub written : Rose out.faults out'.faults → ⊥
+  pub short_catalogue : IsLong before.contents catalogue FILE_LIMIT → ⊥
+  pub short_stream : IsLong before.contents stream FILE_LIMIT → ⊥
+  pub passing : (bytes : List ℕ) → IsContent before.contents catalogue bytes → ArePassing bytes
+
 -- the exits of a catalogue that was read and doesn't pass its check
 abbrev pub IsUnpassedExit : Exit → Catalog → List OpeningRow → Type 0
 IsUnpassedExit (exit.Catalogue (fault.Check unpassed.Memory catalog)) read rows = ⊥

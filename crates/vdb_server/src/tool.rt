@@ -4,7 +4,7 @@ ghost use Rattle.causes.specs.Told.{IsContent};
 ghost use Rattle.vdb_server.specs.Sources.{IsLong, Lasts};
 ghost use Rattle.vdb_server.specs.Exits.{is_replay, is_check, catalogue_name, stream_name, IsReadable, IsRefusedFile, IfCatalogue, IfUnopened, IsReadExit, IsOpeningExit, HasNoFault, IsRunExit, IsToolExit};
 ghost use Rattle.vra_types.specs.Check.{Passes};
-ghost use Rattle.vdb_server.specs.Checks.{IsCheckedFile, IsToldExit, IsCheckExit, IsUnpassedExit};
+ghost use Rattle.vdb_server.specs.Checks.{IsCheckedFile, IsReady, IsToldExit, IsCheckExit, IsUnpassedExit};
 ghost use Rattle.session_poll.specs.Servable.{IsServable};
 ghost use Rattle.vschema.specs.Formed.{IsFormed};
 ghost use Rattle.vdb_server.specs.Replayed.{IsReplayedExit};
@@ -26,6 +26,7 @@ pub const FILE_LIMIT: u64 = 268_435_456;
 
 /// Runs the command that the words name: `replay CATALOGUE STREAM` runs one session over the bytes of the second file
 /// and puts out what it answers. `check CATALOGUE` says whether the catalogue can be used.
+#[tactic(auto, using(crate::proofs::ReadyLaws::no_fault))]
 pub fn run_tool<F: Source, O: Sink>(
     alloc: Global,
     words: &[String],
@@ -36,6 +37,10 @@ pub fn run_tool<F: Source, O: Sink>(
     ensures completes { is_replay (map string_bytes words.now) ≡ true
         → HasNoFault (F.files files.old) (F.files files.new) (catalogue_name (map string_bytes words.now)) (stream_name (map string_bytes words.now)) (O.held out.old) (O.held out.new)
         → (result ≡ exit.Done) ⊎ (result ≡ exit.Memory) }
+    // So it is where the catalogue's file holds a catalogue that passes its check.
+    ensures ready { is_replay (map string_bytes words.now) ≡ true
+        → IsReady (F.files files.old) (F.files files.new) (catalogue_name (map string_bytes words.now)) (stream_name (map string_bytes words.now)) (O.held out.old) (O.held out.new)
+        → (result ≡ exit.Done) ⊎ (result ≡ exit.Memory) }
     // What a replay put out begins the reply of a session to the stream, and is the whole of it where it is done.
     ensures replayed { is_replay (map string_bytes words.now) ≡ true
         → IsReplayedExit (F.files files.old) (catalogue_name (map string_bytes words.now)) (stream_name (map string_bytes words.now)) result (O.held out.old) (O.held out.new) }
@@ -44,6 +49,9 @@ pub fn run_tool<F: Source, O: Sink>(
         → IsToldExit (F.files files.old) (catalogue_name (map string_bytes words.now)) result (O.held out.old) (O.held out.new) }
     ensures checks { is_check (map string_bytes words.now) ≡ true
         → HasNoFault (F.files files.old) (F.files files.new) (catalogue_name (map string_bytes words.now)) (catalogue_name (map string_bytes words.now)) (O.held out.old) (O.held out.new)
+        → (result ≡ exit.Done) ⊎ (result ≡ exit.Memory) }
+    ensures ready_to_check { is_check (map string_bytes words.now) ≡ true
+        → IsReady (F.files files.old) (F.files files.new) (catalogue_name (map string_bytes words.now)) (catalogue_name (map string_bytes words.now)) (O.held out.old) (O.held out.new)
         → (result ≡ exit.Done) ⊎ (result ≡ exit.Memory) }
     ensures usage { (result ≡ exit.Usage) ↔ ((is_replay (map string_bytes words.now) || is_check (map string_bytes words.now)) ≡ false) }
     ensures read { result ≡ exit.ReadFault → Rose (F.files files.old).faults (F.files files.new).faults }

@@ -5,9 +5,11 @@ mod alike;
 mod check;
 mod check_row;
 mod check_table;
+mod laws;
 mod refused;
 #[cfg(test)]
 mod tests;
 
 pub use check::check_catalog;
+pub use laws::check_laws;
 pub use refused::CheckRefused;

@@ -1,5 +1,5 @@
 -- What a refusal of the catalogue's reader says of the bytes that it read.
-use Rattle.std.specs.Prelude.{◌≡◌, ℕ, List}
+use Rattle.std.specs.Prelude.{◌≡◌, ◌≢◌, ℕ, List, Result, Ok, Err}
 use Rattle.std.specs.Str.{IsUtf8}
 use Rattle.std.specs.Str.Lossy.{utf8_valid_len}
 use Rattle.feature_expr.specs.Tokens.{AreTokens}
@@ -7,6 +7,8 @@ use Rattle.feature_expr.specs.declared.token.Token.{Token}
 use Rattle.vschema.specs.Words.{line_number}
 use Rattle.vschema.specs.CatalogueGrammar.{IsViableFault}
 use Rattle.vschema.specs.Faults.{CatalogueFault}
+use Rattle.vschema.specs.declared.catalog.Catalog.{Catalog}
+use Rattle.vschema.specs.declared.catalog.OpeningRow.{OpeningRow}
 use Rattle.vschema.specs.declared.fault.CatalogFault.{CatalogFault}
 use Rattle.vschema.specs.declared.fault.CatalogFault.TheVariants as fault
 use Rattle.vschema.specs.declared.refused.CatalogRefused.{CatalogRefused}
@@ -39,3 +41,13 @@ abbrev pub Refuses : CatalogRefused → List ℕ → Type 0
 Refuses (refused.Utf8 place) bytes = (IsUtf8 bytes → ⊥) × (place ≡ utf8_valid_len bytes)
 Refuses refused.Memory bytes = Unit {0}
 Refuses why bytes = IsRefused why bytes
+
+-- the answer is this catalogue with these opening rows, or memory ran out
+abbrev pub Gives : Catalog → List OpeningRow → Result (Catalog × List OpeningRow) CatalogRefused → Type 0
+Gives catalog rows (Ok found) = (found.0 ≡ catalog) × (found.1 ≡ rows)
+Gives catalog rows (Err why) = why ≡ refused.Memory
+
+-- the answer is this refusal, or memory ran out
+abbrev pub GivesFault : CatalogRefused → Result (Catalog × List OpeningRow) CatalogRefused → Type 0
+GivesFault why (Ok found) = ⊥
+GivesFault why (Err found) = found ≢ refused.Memory → found ≡ why

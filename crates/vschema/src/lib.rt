@@ -5,6 +5,7 @@ mod catalog;
 mod columns;
 mod entries;
 mod fault;
+mod laws;
 mod parse;
 mod parse_conditions;
 mod parse_features;
@@ -17,5 +18,6 @@ mod tests;
 mod words;
 
 pub use catalog::{Catalog, Column, OpeningRow, Table};
+pub use laws::catalogue_laws;
 pub use parse::parse_catalog;
 pub use refused::{CatalogRefused, Which};

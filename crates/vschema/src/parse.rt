@@ -1,11 +1,15 @@
-ghost use Rattle.std.specs.Prelude.{◌≡◌, ◌≤◌, [], length, IfOk, IfErr};
+ghost use Rattle.std.specs.Prelude.{◌≡◌, ◌≢◌, ◌≤◌, List as ListOf, [], length, IfOk, IfErr};
 ghost use Rattle.feature_expr.specs.Tokens.{AreTokens};
 ghost use Rattle.vschema.specs.Words.{line_number};
 ghost use Rattle.vschema.specs.Spelling.{SpellCatalogue};
 ghost use Rattle.vschema.specs.Files.{IsCatalogue};
 ghost use Rattle.vschema.specs.Faults.{CatalogueFault};
 ghost use Rattle.vschema.specs.Formed.{IsFormed};
-ghost use Rattle.vschema.specs.Refusals.{Refuses, refused_at};
+ghost use Rattle.vschema.specs.Refusals.{Refuses, Gives, GivesFault, refused_at};
+ghost use Rattle.vschema.specs.declared.catalog.Catalog.{Catalog as Spelled};
+ghost use Rattle.vschema.specs.declared.catalog.OpeningRow.{OpeningRow as Row};
+ghost use Rattle.vschema.specs.declared.refused.CatalogRefused.{CatalogRefused as Why};
+ghost use Rattle.vschema.specs.declared.refused.CatalogRefused.TheVariants as refused;
 
 use crate::catalog::{Catalog, OpeningRow};
 use crate::entries::parse_entries;
@@ -30,6 +34,8 @@ pub fn parse_catalog(
     ensures spelled { IfOk result (λ found. IsCatalogue bytes.now found.0 found.1) }
     ensures formed { IfOk result (λ found. IsFormed found.0 found.1) }
     ensures refused { IfErr result (λ why. Refuses why bytes.now) }
+    ensures read { (catalog : Spelled) (rows : ListOf Row) → IsCatalogue bytes.now catalog rows → Gives catalog rows result }
+    ensures refused_for { (why : Why) → Refuses why bytes.now → why ≢ refused.Memory → GivesFault why result }
 {
     match str::from_utf8(bytes) {
         Ok(text) => parse_text(alloc, text),
@@ -37,11 +43,13 @@ pub fn parse_catalog(
     }
 }
 
-#[tactic(auto, using(crate::proofs::AnswerLaws::refused_text, crate::proofs::AnswerLaws::is_catalogue))]
+#[tactic(auto, using(crate::proofs::AnswerLaws::refused_text, crate::proofs::AnswerLaws::is_catalogue, crate::proofs::FileLaws::fault_found))]
 fn parse_text(alloc: Global, text: &str) -> Result<(Catalog, List<OpeningRow>), CatalogRefused>
     ensures spelled { IfOk result (λ found. IsCatalogue text.now found.0 found.1) }
     ensures formed { IfOk result (λ found. IsFormed found.0 found.1) }
     ensures refused { IfErr result (λ why. Refuses why text.now) }
+    ensures read { (catalog : Spelled) (rows : ListOf Row) → IsCatalogue text.now catalog rows → Gives catalog rows result }
+    ensures refused_for { (why : Why) → Refuses why text.now → why ≢ refused.Memory → GivesFault why result }
 {
     let tokens = tokens(alloc, text)?;
     match parse_tokens(alloc, text.as_bytes(), tokens.as_slice()) {
