@@ -1,7 +1,7 @@
 use crate::column_name::ColName;
 use crate::config::Config;
 use crate::expr::{Expr, and, copy_expr, eval, not, or, weight};
-use crate::features::Features;
+use crate::features::{Features, FeaturesRefused};
 use crate::list::List;
 use crate::memory::TryCopy;
 use crate::parse::{ExprRefused, parse_expr};
@@ -430,5 +430,41 @@ fn what_is_added_stands_at_the_end(rt: HostRuntime) -> Result<(), Fail> {
     let mut text = Text::new(rt.alloc());
     assert!(rt; text.push(b'b').is_ok());
     assert_eq!(rt; text.as_slice(), b"b".as_slice());
+    Ok(())
+}
+
+/// Refused texts and names, and what is said of them.
+const EXPR_SAID: [(ExprRefused, &str); 4] = [
+    (ExprRefused::Syntax(1), "syntax error at character 1"),
+    (
+        ExprRefused::UnknownFeature(20),
+        "unknown feature at character 20",
+    ),
+    (
+        ExprRefused::TooDeep(65),
+        "nesting is too deep at character 65",
+    ),
+    (ExprRefused::Memory, "out of memory"),
+];
+
+const FEATURES_SAID: [(FeaturesRefused, &str); 3] = [
+    (FeaturesRefused::TooMany(65), "65 features, more than 64"),
+    (
+        FeaturesRefused::NotAName(2),
+        "the name of feature 2 isn't one",
+    ),
+    (FeaturesRefused::Duplicate(3), "feature 3 stood before"),
+];
+
+#[test]
+fn a_refusal_says_its_cause_and_place(rt: HostRuntime) -> Result<(), Fail> {
+    for (why, wanted) in EXPR_SAID {
+        let said = format!(in rt.alloc(); "{why}")?;
+        assert_eq!(rt; said.as_str(), wanted);
+    }
+    for (why, wanted) in FEATURES_SAID {
+        let said = format!(in rt.alloc(); "{why}")?;
+        assert_eq!(rt; said.as_str(), wanted);
+    }
     Ok(())
 }

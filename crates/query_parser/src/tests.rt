@@ -134,6 +134,41 @@ fn says_where_the_first_fault_is(rt: HostRuntime) -> Result<(), Fail> {
     Ok(())
 }
 
+/// Refusals, and what they say.
+const SAID: [(ParseRefused, &str); 7] = [
+    (ParseRefused::Syntax(1), "syntax error at character 1"),
+    (
+        ParseRefused::UnknownFeature(20),
+        "unknown feature at character 20",
+    ),
+    (
+        ParseRefused::IntTooLarge(3),
+        "integer out of range at character 3",
+    ),
+    (
+        ParseRefused::TooDeep(65),
+        "nesting is too deep at character 65",
+    ),
+    (
+        ParseRefused::TooManyParams(5),
+        "parameter number too large at character 5",
+    ),
+    (
+        ParseRefused::NoParam(6),
+        "parameter at character 6, where none may stand",
+    ),
+    (ParseRefused::Memory, "out of memory"),
+];
+
+#[test]
+fn a_refusal_says_its_cause_and_place(rt: HostRuntime) -> Result<(), Fail> {
+    for (why, wanted) in SAID {
+        let said = format!(in rt.alloc(); "{why}")?;
+        assert_eq!(rt; said.as_str(), wanted);
+    }
+    Ok(())
+}
+
 /// The features A and B.
 fn features(alloc: Global) -> Result<Features, Fail> {
     let mut names = Vec::new(alloc);
