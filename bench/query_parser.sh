@@ -5,7 +5,7 @@ set -eu
 top=$(cd "$(dirname "$0")/.." && pwd)
 work=$(mktemp -d)
 trap 'rm -rf "$work"' EXIT
-for crate in feature_expr vra_syntax query_parser; do
+for crate in feature_expr vra_syntax query_printer query_parser; do
   mkdir -p "$work/crates/$crate"
   for part in src specs proofs; do
     cp -r "$top/crates/$crate/$part" "$work/crates/$crate/"

@@ -24,7 +24,7 @@ use Rattle.vra_syntax.specs.declared.cond.Operand.{Operand}
 use Rattle.vra_syntax.specs.declared.cond.Operand.TheVariants as operand
 use Rattle.query_parser.specs.Lexemes.{lexeme_of_name, lexeme_of_reserved, lexeme_of_word, lexeme_of_mark, lexeme_of_kind, lexeme_at, stands, is_name, name_at, op_of, op_at, value_of_kind, value_at}
 use Rattle.query_parser.specs.Parts.{IsColumn, plain_column, prefixed_column, IsOperand, column_operand, value_operand, IsExpression}
-use Rattle.query_parser.specs.Printing.{prefix_text, column_text, byte_text, truth_text, operand_text, op_text}
+use Rattle.query_printer.specs.Printing.{prefix_text, column_text, byte_text, truth_text, operand_text, op_text}
 use Rattle.query_parser.specs.declared.lexeme.Lexeme.{Lexeme}
 use Rattle.query_parser.specs.declared.lexeme.Lexeme.TheVariants as lexeme
 use Rattle.query_parser.specs.declared.lexeme.TheConstants.{NESTING_LIMIT}

@@ -16,7 +16,7 @@ use Rattle.query_parser.proofs.Printables.{PlainExpr}
 use Rattle.query_parser.proofs.SignLaws.{or_takes, and_takes}
 use Rattle.query_parser.specs.Lexemes.{number_of, lexeme_of_word, lexeme_of_mark, lexeme_at}
 use Rattle.query_parser.specs.Parts.{IsChoice}
-use Rattle.query_parser.specs.Printing.{op_text}
+use Rattle.query_printer.specs.Printing.{op_text}
 use Rattle.query_parser.specs.declared.lexeme.Lexeme.{Lexeme}
 use Rattle.query_parser.specs.declared.lexeme.Lexeme.TheVariants as lexeme
 use Rattle.query_parser.specs.declared.lexeme.TheConstants.{NESTING_LIMIT}

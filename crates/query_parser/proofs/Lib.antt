@@ -13,7 +13,6 @@ mod PlainLaws
 mod PlainParts
 mod PlainQueries
 mod PlainTokens
-pub mod PrintLaws
 mod Printables
 mod PrintedConds
 mod PrintedItems

@@ -6,10 +6,10 @@ use Rattle.feature_expr.specs.declared.token.Token.{Token}
 use Rattle.vra_syntax.specs.declared.cond.Cond.{Cond}
 use Rattle.vra_syntax.specs.declared.cond.Cond as cond
 use Rattle.query_parser.specs.Conditions.{CondPart, OrChain, Condition, AndChain, Conjunction, Negation, SpellsCond, one_conjunction, another_conjunction, whole_condition, one_negation, another_negation, whole_conjunction, not_condition, condition_in_brackets, choice_of_conditions, comparison, truth, falsehood, IsWhere, no_where, some_where}
-use Rattle.query_parser.specs.Printing.{takes_and, takes_or}
+use Rattle.query_printer.specs.Printing.{takes_and, takes_or}
 use Rattle.query_parser.specs.declared.lexeme.TheConstants.{NESTING_LIMIT}
-use Rattle.query_parser.specs.declared.print_cond.CondPlace.{CondPlace}
-use Rattle.query_parser.specs.declared.print_cond.CondPlace.TheVariants as cplace
+use Rattle.query_printer.specs.declared.print_cond.CondPlace.{CondPlace}
+use Rattle.query_printer.specs.declared.print_cond.CondPlace.TheVariants as cplace
 use Rattle.query_parser.proofs.Printables.{PlainExpr, PlainCond, plain_comparison, plain_true, plain_false, plain_not, free_and, bound_and, free_or, bound_or, plain_cond_choice}
 use Rattle.query_parser.proofs.PlainParts.{plain_operand_at, plain_choice_at}
 

@@ -9,12 +9,12 @@ use Rattle.vra_syntax.specs.declared.items.Items.{Items}
 use Rattle.vra_syntax.specs.declared.items.Items.TheVariants as items
 use Rattle.vra_syntax.specs.declared.query.Query.{Query}
 use Rattle.vra_syntax.specs.declared.query.Query as query
-use Rattle.query_parser.specs.Printing.{takes_chain, takes_select, takes_join, takes_alias}
+use Rattle.query_printer.specs.Printing.{takes_chain, takes_select, takes_join, takes_alias}
 use Rattle.query_parser.specs.Queries.{QueryPart, QueryChain, WholeQuery, Term, Simple, SourceChain, WholeSource, SourceTerm, SpellsQuery, one_term, union_term, except_term, whole_query, select_term, simple_term, table, empty_query, query_in_brackets, choice_of_queries, one_source, joined_source, whole_source, plain_source, source_with_alias}
 use Rattle.query_parser.specs.declared.lexeme.TheConstants.{NESTING_LIMIT}
-use Rattle.query_parser.specs.declared.print_cond.CondPlace.TheVariants as cplace
-use Rattle.query_parser.specs.declared.print_query.QueryPlace.{QueryPlace}
-use Rattle.query_parser.specs.declared.print_query.QueryPlace.TheVariants as qplace
+use Rattle.query_printer.specs.declared.print_cond.CondPlace.TheVariants as cplace
+use Rattle.query_printer.specs.declared.print_query.QueryPlace.{QueryPlace}
+use Rattle.query_printer.specs.declared.print_query.QueryPlace.TheVariants as qplace
 use Rattle.query_parser.proofs.Printables.{PlainItemWhen, PlainItem, PlainItemList, PlainItems, PlainCond, PlainQuery, plain_table, plain_empty, free_select, bound_select, plain_join, free_union, bound_union, free_except, bound_except, plain_alias, plain_query_choice}
 use Rattle.query_parser.proofs.PlainTokens.{plain_name}
 use Rattle.query_parser.proofs.PlainParts.{plain_choice_at, plain_items_at}

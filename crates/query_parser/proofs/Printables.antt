@@ -23,12 +23,12 @@ use Rattle.vra_syntax.specs.declared.statement.Statement.TheVariants as statemen
 use Rattle.vra_syntax.specs.declared.write.SetItem.{SetItem}
 use Rattle.vra_syntax.specs.declared.write.Write.{Write}
 use Rattle.vra_syntax.specs.declared.write.Write.TheVariants as write
-use Rattle.query_parser.specs.Printing.{takes_and, takes_or, takes_chain, takes_select, takes_join, takes_alias}
+use Rattle.query_printer.specs.Printing.{takes_and, takes_or, takes_chain, takes_select, takes_join, takes_alias}
 use Rattle.query_parser.specs.declared.lexeme.TheConstants.{NESTING_LIMIT}
-use Rattle.query_parser.specs.declared.print_cond.CondPlace.{CondPlace}
-use Rattle.query_parser.specs.declared.print_cond.CondPlace.TheVariants as cplace
-use Rattle.query_parser.specs.declared.print_query.QueryPlace.{QueryPlace}
-use Rattle.query_parser.specs.declared.print_query.QueryPlace.TheVariants as qplace
+use Rattle.query_printer.specs.declared.print_cond.CondPlace.{CondPlace}
+use Rattle.query_printer.specs.declared.print_cond.CondPlace.TheVariants as cplace
+use Rattle.query_printer.specs.declared.print_query.QueryPlace.{QueryPlace}
+use Rattle.query_printer.specs.declared.print_query.QueryPlace.TheVariants as qplace
 
 -- a name in lower case
 abbrev pub PlainName : List ℕ → Type 0

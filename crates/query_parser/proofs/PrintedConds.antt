@@ -16,12 +16,12 @@ use Rattle.query_parser.proofs.Printables.{PlainOperand, plain_value, plain_trut
 use Rattle.query_parser.proofs.PrintedTexts.{and_with, or_with, where_with, printed_cmp, printed_true, printed_false, printed_not, printed_and, printed_and_bound, printed_or, printed_or_bound, printed_cond_choice, printed_no_where, where_cmp, where_false, where_not, where_and, where_or, where_choice}
 use Rattle.query_parser.specs.Conditions.{CondPart, OrChain, Condition, AndChain, Negation, SpellsCond, one_conjunction, another_conjunction, whole_condition, one_negation, another_negation, whole_conjunction, not_condition, condition_in_brackets, choice_of_conditions, comparison, truth, falsehood, IsWhere, no_where, some_where}
 use Rattle.query_parser.specs.Lexemes.{lexeme_at, op_of}
-use Rattle.query_parser.specs.Printing.{operand_text, op_text, takes_and, takes_or, cond_at, cond_text, where_text}
+use Rattle.query_printer.specs.Printing.{operand_text, op_text, takes_and, takes_or, cond_at, cond_text, where_text}
 use Rattle.query_parser.specs.declared.lexeme.Lexeme.{Lexeme}
 use Rattle.query_parser.specs.declared.lexeme.Lexeme.TheVariants as lexeme
 use Rattle.query_parser.specs.declared.lexeme.TheConstants.{NESTING_LIMIT}
-use Rattle.query_parser.specs.declared.print_cond.CondPlace.{CondPlace}
-use Rattle.query_parser.specs.declared.print_cond.CondPlace.TheVariants as cplace
+use Rattle.query_printer.specs.declared.print_cond.CondPlace.{CondPlace}
+use Rattle.query_printer.specs.declared.print_cond.CondPlace.TheVariants as cplace
 
 -- no operand goes on with this token
 abbrev pub EndsOperand : Lexeme → Type 0

@@ -17,7 +17,7 @@ use Rattle.query_parser.proofs.PrintedTexts.{two_behind, three_behind}
 use Rattle.query_parser.proofs.SignLaws.{name_takes}
 use Rattle.query_parser.specs.Lexemes.{lexeme_at, stands, is_name}
 use Rattle.query_parser.specs.Parts.{IsColumn, plain_column, prefixed_column, IsRename, no_rename, some_rename, IsItemWhen, no_item_when, some_item_when, IsItem, ItemsTo, one_item, another_item, AreItems, all_items, listed_items}
-use Rattle.query_parser.specs.Printing.{behind_comma, listed, column_text, rename_text, item_when_text, item_text, items_text}
+use Rattle.query_printer.specs.Printing.{behind_comma, listed, column_text, rename_text, item_when_text, item_text, items_text}
 use Rattle.query_parser.specs.declared.lexeme.Lexeme.{Lexeme}
 use Rattle.query_parser.specs.declared.lexeme.Lexeme.TheVariants as lexeme
 

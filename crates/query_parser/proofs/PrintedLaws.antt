@@ -21,7 +21,7 @@ use Rattle.query_parser.proofs.PrintedConds.{where_ended}
 use Rattle.query_parser.proofs.PrintedQueries.{WholeQueryHere, query_here}
 use Rattle.query_parser.proofs.PrintedWrites.{WriteHere, insert_here, delete_here, update_here}
 use Rattle.query_parser.specs.Lexemes.{lexeme_at}
-use Rattle.query_parser.specs.Printing.{text_of}
+use Rattle.query_printer.specs.Printing.{text_of}
 use Rattle.query_parser.specs.Statements.{IsTail, no_tail, IsSetting, integer_setting, SpellsStatement, begin_statement, commit_statement, rollback_statement, set_statement, query_statement, no_statement_yet, AreStatements, ends_with_statement}
 use Rattle.query_parser.specs.Texts.{IsText}
 use Rattle.query_parser.specs.declared.lexeme.Lexeme.TheVariants as lexeme

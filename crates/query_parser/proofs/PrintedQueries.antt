@@ -15,14 +15,14 @@ use Rattle.query_parser.proofs.PrintedConds.{EndsCondition, condition_here, wher
 use Rattle.query_parser.proofs.PrintedItems.{items_here}
 use Rattle.query_parser.proofs.PrintedTexts.{select_with, chain_with, printed_table, printed_empty, printed_query_choice, printed_select, printed_select_bound, printed_join, printed_union, printed_union_bound, printed_except, printed_except_bound, printed_alias}
 use Rattle.query_parser.specs.Lexemes.{lexeme_at}
-use Rattle.query_parser.specs.Printing.{cond_text, where_text, items_text, takes_chain, takes_select, takes_join, takes_alias, query_at, query_text}
+use Rattle.query_printer.specs.Printing.{cond_text, where_text, items_text, takes_chain, takes_select, takes_join, takes_alias, query_at, query_text}
 use Rattle.query_parser.specs.Queries.{QueryPart, QueryChain, WholeQuery, Term, Simple, SourceChain, SourceTerm, SpellsQuery, one_term, union_term, except_term, whole_query, select_term, simple_term, table, empty_query, query_in_brackets, choice_of_queries, one_source, joined_source, whole_source, plain_source, source_with_alias}
 use Rattle.query_parser.specs.declared.lexeme.Lexeme.{Lexeme}
 use Rattle.query_parser.specs.declared.lexeme.Lexeme.TheVariants as lexeme
 use Rattle.query_parser.specs.declared.lexeme.TheConstants.{NESTING_LIMIT}
-use Rattle.query_parser.specs.declared.print_cond.CondPlace.TheVariants as cplace
-use Rattle.query_parser.specs.declared.print_query.QueryPlace.{QueryPlace}
-use Rattle.query_parser.specs.declared.print_query.QueryPlace.TheVariants as qplace
+use Rattle.query_printer.specs.declared.print_cond.CondPlace.TheVariants as cplace
+use Rattle.query_printer.specs.declared.print_query.QueryPlace.{QueryPlace}
+use Rattle.query_printer.specs.declared.print_query.QueryPlace.TheVariants as qplace
 
 -- no source goes on with this token, but for one that is joined
 abbrev pub EndsSource : Lexeme → Type 0

@@ -17,11 +17,11 @@ use Rattle.vra_syntax.specs.declared.query.Query as query
 use Rattle.vra_syntax.specs.declared.query.Query.TheFolds.{fold-roll-Query}
 use Rattle.vra_syntax.specs.declared.query.Query.TheOpen.{Query-F}
 use Rattle.vra_syntax.specs.declared.query.Query.TheVariants as q
-use Rattle.query_parser.specs.Printing.{operand_text, op_text, choice_text, takes_and, takes_or, cond_step, cond_at, cond_text, where_step, where_text, items_text, takes_chain, takes_select, takes_join, takes_alias, query_step, query_at}
-use Rattle.query_parser.specs.declared.print_cond.CondPlace.{CondPlace}
-use Rattle.query_parser.specs.declared.print_cond.CondPlace.TheVariants as cplace
-use Rattle.query_parser.specs.declared.print_query.QueryPlace.{QueryPlace}
-use Rattle.query_parser.specs.declared.print_query.QueryPlace.TheVariants as qplace
+use Rattle.query_printer.specs.Printing.{operand_text, op_text, choice_text, takes_and, takes_or, cond_step, cond_at, cond_text, where_step, where_text, items_text, takes_chain, takes_select, takes_join, takes_alias, query_step, query_at}
+use Rattle.query_printer.specs.declared.print_cond.CondPlace.{CondPlace}
+use Rattle.query_printer.specs.declared.print_cond.CondPlace.TheVariants as cplace
+use Rattle.query_printer.specs.declared.print_query.QueryPlace.{QueryPlace}
+use Rattle.query_printer.specs.declared.print_query.QueryPlace.TheVariants as qplace
 
 -- texts of parts, with what stands behind them
 pub two_behind : (t a b post : List ℕ) → t ≡ a ++ b → t ++ post ≡ a ++ (b ++ post)

@@ -18,16 +18,16 @@ use Rattle.query_parser.proofs.HereLaws.{Ends, name_here, value_here, expression
 use Rattle.query_parser.proofs.HereParts.{Isnt, reads_as, mark, mark_before, word_before, between, not_or, not_and}
 use Rattle.query_parser.proofs.Heres.{Here, space_here}
 use Rattle.query_parser.proofs.Printables.{PlainName, PlainNames, PlainValue, PlainValues, PlainExpr, PlainCond, PlainSetItems, PlainRows}
-use Rattle.query_parser.proofs.PrintLaws.{map_same}
+use Rattle.query_printer.proofs.PrintLaws.{map_same}
 use Rattle.query_parser.proofs.PrintedConds.{EndsWhere, where_ended, where_ends, where_here}
 use Rattle.query_parser.proofs.PrintedTexts.{two_behind, three_behind}
 use Rattle.query_parser.specs.Lexemes.{lexeme_at, stands, name_at, value_at}
 use Rattle.query_parser.specs.Parts.{IsWhen, no_when, some_when}
-use Rattle.query_parser.specs.Printing.{behind_comma, listed, operand_text, where_text, when_step, when_text, row_text, set_item_text, insert_text, update_text, write_text}
+use Rattle.query_printer.specs.Printing.{behind_comma, listed, operand_text, where_text, when_step, when_text, row_text, set_item_text, insert_text, update_text, write_text}
 use Rattle.query_parser.specs.Statements.{NamesTo, one_name, another_name, ValuesTo, one_value, another_value, IsTuple, TuplesTo, one_tuple, another_tuple, IsSetItem, SetItemsTo, one_set_item, another_set_item, SpellsStatement, insert_statement, delete_statement, update_statement}
 use Rattle.query_parser.specs.declared.lexeme.Lexeme.{Lexeme}
 use Rattle.query_parser.specs.declared.lexeme.Lexeme.TheVariants as lexeme
-use Rattle.query_parser.specs.declared.print_cond.CondPlace.TheVariants as cplace
+use Rattle.query_printer.specs.declared.print_cond.CondPlace.TheVariants as cplace
 
 -- no expression of a write goes on with this token, and there begins none
 abbrev pub EndsWhen : Lexeme → Type 0

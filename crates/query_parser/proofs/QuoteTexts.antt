@@ -7,7 +7,7 @@ use Rattle.feature_expr.specs.Tokens.{closing_from, closing_at, unquoted, scanne
 use Rattle.feature_expr.specs.declared.token.Token.{Token}
 use Rattle.feature_expr.specs.declared.token.TokenKind.TheVariants as kind
 use Rattle.feature_expr.proofs.StandLaws.{TokenIs, both_true, first_at, drop_past, slice_past, token_here}
-use Rattle.query_parser.specs.Printing.{byte_text, quoted}
+use Rattle.query_printer.specs.Printing.{byte_text, quoted}
 use Rattle.query_parser.proofs.Heres.{Here}
 use Rattle.query_parser.proofs.Printables.{IsQuotable}
 

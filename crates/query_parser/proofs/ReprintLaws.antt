@@ -3,7 +3,7 @@ use Rattle.std.proofs.Common.{Bool, ◌≡◌, ℕ, List, [], ◌∷◌, ◌++�
 use Rattle.feature_expr.specs.Names.{refusal}
 use Rattle.feature_expr.proofs.TokenLaws.{has_tokens}
 use Rattle.vra_syntax.specs.declared.statement.Statement.{Statement}
-use Rattle.query_parser.specs.Printing.{text_of}
+use Rattle.query_printer.specs.Printing.{text_of}
 use Rattle.query_parser.specs.Texts.{IsText, IsRefusedText, Gives}
 use Rattle.query_parser.specs.declared.refused.ParseRefused.{ParseRefused}
 use Rattle.query_parser.proofs.Printables.{PlainStatement, PlainStatements}

@@ -3,8 +3,6 @@ pub mod ExpressionFaults
 pub mod Faults
 pub mod Lexemes
 pub mod Parts
-pub mod PrintTasks
-pub mod Printing
 pub mod Queries
 pub mod Settings
 pub mod StatementGrammar
@@ -14,3 +12,4 @@ pub mod Truths
 pub mod Wanted
 pub mod WriteFaults
 pub mod Writes
+pub use Rattle.query_printer.specs.Printing

@@ -1,6 +1,6 @@
-use crate::print::print_into;
 use crate::texts::parse;
 use feature_expr::{Features, List, TryCopy};
+use query_printer::print_statement;
 use std::alloc::Global;
 use std::test::Fail;
 
@@ -23,8 +23,7 @@ fn a_long_chain_takes_no_stack(rt: HostRuntime) -> Result<(), Fail> {
         let text = chain(alloc, first, link)?;
         let statements = parse(alloc, text.as_str(), &features, false)?;
         let statement = statements.get(0).ok_or("no statement")?.copy(alloc)?;
-        let mut printed = Vec::new(alloc);
-        print_into(alloc, &statement, &features, &mut printed)?;
+        let printed = print_statement(alloc, &statement, &features)?;
         assert!(rt; printed.as_slice() == text.as_bytes());
     }
     Ok(())

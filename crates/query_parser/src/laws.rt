@@ -1,6 +1,6 @@
 ghost use Rattle.std.specs.Prelude.{◌≡◌, ◌≢◌, ℕ, Bool, List, [], ◌∷◌, ◌++◌, None};
 ghost use Rattle.feature_expr.specs.Names.{refusal};
-ghost use Rattle.query_parser.specs.Printing.{text_of};
+ghost use Rattle.query_printer.specs.Printing.{text_of};
 ghost use Rattle.query_parser.specs.Texts.{IsText, IsRefusedText};
 ghost use Rattle.query_parser.specs.declared.lexeme.TheConstants.{NESTING_LIMIT};
 ghost use Rattle.query_parser.specs.declared.refused.ParseRefused.{ParseRefused};

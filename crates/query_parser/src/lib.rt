@@ -1,4 +1,4 @@
-//! The texts of statements: reading and printing them.
+//! Reading statements from their texts, and what is read of printed ones.
 #![tactic(auto)]
 
 #[cfg(test)]
@@ -12,13 +12,6 @@ mod items;
 mod laws;
 mod lexeme;
 mod parsing;
-mod print;
-mod print_cond;
-mod print_parts;
-mod print_query;
-#[cfg(test)]
-mod print_tests;
-mod print_write;
 mod queries;
 mod refused;
 #[cfg(test)]
@@ -32,6 +25,6 @@ mod writes;
 
 pub use fault::ParseFault;
 pub use laws::statement_laws;
-pub use print::print_statement;
+pub use query_printer::print_statement;
 pub use refused::ParseRefused;
 pub use texts::parse;

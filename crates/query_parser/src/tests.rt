@@ -2,7 +2,9 @@ use crate::refused::ParseRefused;
 use crate::shown::shown;
 use crate::texts::parse;
 use feature_expr::{Features, List, Name};
+use query_printer::print_statement;
 use std::alloc::Global;
+use std::str;
 use std::test::Fail;
 
 /// Texts, and the statements that they spell, with brackets round each part of a chain.
@@ -130,6 +132,55 @@ fn says_where_the_first_fault_is(rt: HostRuntime) -> Result<(), Fail> {
     for (text, with_params, wanted) in REFUSED {
         let refused = parse(alloc, text, &features(alloc)?, with_params).err();
         assert_eq!(rt; refused, Some(wanted), "{text}");
+    }
+    Ok(())
+}
+
+/// Statements as they are printed.
+const PRINTED: [&str; 30] = [
+    "begin",
+    "commit",
+    "rollback",
+    "set x to 0",
+    "t",
+    "empty",
+    "select * from t where false",
+    "select x, a.y as z, w when not A from t",
+    "select a.x as b.y when true from t",
+    "t union u except v",
+    "t union (u except v)",
+    "t except (select * from u union v)",
+    "select * from (select * from t)",
+    "select * from (t union u) as n",
+    "select * from choice [A] (t, u) as n",
+    "choice [A or B] (t union u, select * from v)",
+    "select * from t as n join u as n on true join v on x <> 2",
+    "select * from t join (u except v) as n on true where x = 1",
+    "delete from t",
+    "delete from t where x = 1 and (x <> 2 and x < 3)",
+    "delete from t where x = 1 or (x <= 2 or x > 3)",
+    "delete from t where (x = 1 or x <> 2) and x >= 3",
+    "delete from t where not (x = 1 and not not x <> 2)",
+    "delete from t where not choice [A] (x = 1 or true, false)",
+    "delete from t where a.x = 'it''s' or $1 = $1024",
+    "delete from t where true = false when A and not (A or B)",
+    "delete from t where x = -9223372036854775808",
+    "insert into t (a, b) values (1, 'x'), ($2, true) when A and not A",
+    "update t set a = 1, b = '''' where x = 1 when A",
+    "update t set a = -1",
+];
+
+/// What is printed is read as one statement, which is printed as it was.
+#[test]
+fn a_printed_statement_is_read_again(rt: HostRuntime) -> Result<(), Fail> {
+    let alloc = rt.alloc();
+    let features = features(alloc)?;
+    for text in PRINTED {
+        let statements = parse(alloc, text, &features, true)?;
+        assert_eq!(rt; statements.len(), 1);
+        let statement = statements.get(0).ok_or("no statement")?;
+        let printed = print_statement(alloc, statement, &features)?;
+        assert_eq!(rt; str::from_utf8(printed.as_slice())?, text);
     }
     Ok(())
 }

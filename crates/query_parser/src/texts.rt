@@ -1,5 +1,5 @@
 ghost use Rattle.std.specs.Prelude.{◌≡◌, ◌≢◌, ℕ, List as ListOf, [], ◌∷◌, ◌++◌, IfOk, IfErr};
-ghost use Rattle.query_parser.specs.Printing.{text_of};
+ghost use Rattle.query_printer.specs.Printing.{text_of};
 ghost use Rattle.query_parser.specs.Texts.{IsText, IsRefusedText, Gives, GivesFault, placed_at};
 ghost use Rattle.query_parser.specs.declared.refused.ParseRefused.{ParseRefused as Why};
 ghost use Rattle.query_parser.specs.declared.refused.ParseRefused.TheVariants as refused;

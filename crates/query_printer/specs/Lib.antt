@@ -1,0 +1,2 @@
+pub mod PrintTasks
+pub mod Printing
