@@ -1,24 +1,16 @@
 //! Reading statements from their texts, and what is read of printed ones.
 #![tactic(auto)]
 
-#[cfg(test)]
-mod chain_tests;
 mod clauses;
 mod conditions;
 mod fault;
-#[cfg(test)]
-mod fault_tests;
 mod items;
 mod laws;
 mod lexeme;
 mod parsing;
 mod queries;
 mod refused;
-#[cfg(test)]
-mod shown;
 mod statements;
-#[cfg(test)]
-mod tests;
 mod texts;
 mod words;
 mod writes;

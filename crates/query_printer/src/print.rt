@@ -22,7 +22,7 @@ pub fn print_statement(
     Ok(Text::from_vec(text))
 }
 
-pub fn print_into(
+fn print_into(
     alloc: Global,
     statement: &Statement,
     features: &Features,

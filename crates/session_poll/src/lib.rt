@@ -21,8 +21,6 @@ mod start;
 mod start_up;
 mod state;
 mod tables;
-#[cfg(test)]
-mod tests;
 
 pub use opening::Opening;
 pub use polled::Polled;

@@ -13,11 +13,7 @@ mod copies;
 mod count;
 mod items;
 mod query;
-#[cfg(test)]
-mod shown;
 mod statement;
-#[cfg(test)]
-mod tests;
 mod write;
 
 pub use bind::bind_params;

@@ -1,9 +1,9 @@
 ghost use Rattle.std.specs.Prelude.{IfOk};
 ghost use Rattle.session_poll.specs.Servable.{IsServable};
 
-use super::*;
 use feature_expr::Text;
 use pg_messages::{Back, Decoded, decode_back};
+use session_poll::{Opening, Polled, Session};
 use std::alloc::Global;
 use std::str;
 use std::test::Fail;
