@@ -228,13 +228,18 @@ fn is_nested(
     depth: usize,
     wanted: &str,
 ) -> Result<(), Fail> {
+    let text = nested(alloc, parts, depth)?;
+    let said = fault_of(alloc, text.as_str(), false)?;
+    assert_eq!(rt; said.as_str(), wanted, "{text}");
+    Ok(())
+}
+
+/// The text that opens and closes so many levels.
+fn nested(alloc: Global, parts: &str, depth: usize) -> Result<String, Fail> {
     let (before, rest) = parts.split_once('|').ok_or("nothing before")?;
     let (open, rest) = rest.split_once('|').ok_or("nothing opens")?;
     let (inside, close) = rest.split_once('|').ok_or("nothing inside")?;
     let opened = open.repeat(alloc, depth)?;
     let closed = close.repeat(alloc, depth)?;
-    let text = format!(in alloc; "{before}{opened}{inside}{closed}")?;
-    let said = fault_of(alloc, text.as_str(), false)?;
-    assert_eq!(rt; said.as_str(), wanted, "{text}");
-    Ok(())
+    Ok(format!(in alloc; "{before}{opened}{inside}{closed}")?)
 }
