@@ -1,5 +1,5 @@
 -- What a text begins with from a place on, and which token stands there.
-use Rattle.std.proofs.Common.{◌≡◌, ℕ, ◌+◌, List, [], ◌∷◌, ◌++◌, drop, Bool, true, refl, arith}
+use Rattle.std.proofs.Common.{◌≡◌, ℕ, ◌+◌, List, [], ◌∷◌, ◌++◌, drop, true, refl, arith}
 use Rattle.feature_expr.specs.Names.{is_word_of}
 use Rattle.feature_expr.specs.Tokens.{AreTokens}
 use Rattle.feature_expr.specs.declared.token.Token.{Token}

@@ -21,7 +21,6 @@ use Rattle.vra_syntax.specs.declared.query.Query as query
 use Rattle.vra_syntax.specs.declared.statement.Statement.{Statement}
 use Rattle.vra_syntax.specs.declared.statement.Statement.TheVariants as statement
 use Rattle.vra_syntax.specs.declared.write.SetItem.{SetItem}
-use Rattle.vra_syntax.specs.declared.write.Write.{Write}
 use Rattle.vra_syntax.specs.declared.write.Write.TheVariants as write
 use Rattle.query_printer.specs.Printing.{takes_and, takes_or, takes_chain, takes_select, takes_join, takes_alias}
 use Rattle.query_parser.specs.declared.lexeme.TheConstants.{NESTING_LIMIT}

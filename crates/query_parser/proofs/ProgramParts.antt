@@ -1,14 +1,12 @@
 -- What the small parts of a statement and its conditions spell is what their programs come to, and so is each fault.
-use Rattle.std.proofs.Common.{◌≡◌, ◌≢◌, ℕ, ◌+◌, ◌<◌, ◌≤◌, Bool, true, false, nat_lt, List, [], ◌∷◌, ◌++◌, Option, Some, None, Result, Ok, Err, inl, inr, refl, arith}
+use Rattle.std.proofs.Common.{◌≡◌, ◌≢◌, ℕ, ◌+◌, ◌<◌, ◌≤◌, Bool, true, false, nat_lt, List, [], ◌∷◌, Option, Some, None, Result, Err, inl, inr, refl, arith}
 use Rattle.std.proofs.lemmas.Bool.Decides.{nat_tests}
 use Rattle.feature_expr.specs.declared.column_name.ColName.{ColName}
 use Rattle.feature_expr.specs.declared.expr.Expr.{Expr}
 use Rattle.feature_expr.specs.declared.token.Token.{Token}
-use Rattle.feature_expr.specs.declared.value.Value.{Value}
 use Rattle.feature_expr.specs.declared.value.Value.TheVariants as value
 use Rattle.vra_syntax.specs.declared.cond.Cond.{Cond}
 use Rattle.vra_syntax.specs.declared.cond.Cond as cond
-use Rattle.vra_syntax.specs.declared.cond.Op.{Op}
 use Rattle.vra_syntax.specs.declared.cond.Operand.{Operand}
 use Rattle.vra_syntax.specs.declared.cond.Operand.TheVariants as operand
 use Rattle.vra_syntax.specs.declared.items.Item.{Item}
@@ -16,17 +14,16 @@ use Rattle.vra_syntax.specs.declared.items.Items.{Items}
 use Rattle.vra_syntax.specs.declared.items.Items.TheVariants as kept
 use Rattle.vra_syntax.specs.declared.statement.Statement.{Statement}
 use Rattle.query_parser.specs.Conditions.{CondPart, OrChain, Condition, AndChain, Conjunction, Negation, SpellsCond, one_conjunction, another_conjunction, whole_condition, one_negation, another_negation, whole_conjunction, not_condition, condition_in_brackets, choice_of_conditions, comparison, truth, falsehood, IsWhere, no_where, some_where}
-use Rattle.query_parser.specs.Faults.{ColumnFault, column_memory, no_column, no_base, OperandFault, operand_memory, in_column, no_value, ExpressionFault, ChoiceFault, choice_too_deep, no_square, in_chooser, square_unclosed, no_sides, sides_too_deep, CondFault, cond_memory, in_first_conjunction, in_next_conjunction, in_first_negation, in_next_negation, not_too_deep, in_not, cond_too_deep, in_cond_brackets, cond_unclosed, in_cond_choice, in_left_cond, no_right_cond, in_right_cond, cond_sides_unclosed, in_left_operand, no_comparison, in_right_operand, WhereFault, WhenFault, RenameFault, ItemFault, in_item_column, in_rename, in_item_when, ItemsFault, items_memory, in_first_item, in_next_item}
-use Rattle.query_parser.specs.Lexemes.{number_of, lexeme_at, stands, name_at, op_at, value_at}
-use Rattle.query_parser.specs.Parts.{IsColumn, plain_column, prefixed_column, IsOperand, column_operand, value_operand, IsExpression, IsChoice, IsRename, no_rename, some_rename, IsItemWhen, no_item_when, some_item_when, IsWhen, no_when, some_when, IsItem, ItemsTo, one_item, another_item, AreItems, all_items, listed_items}
+use Rattle.query_parser.specs.Faults.{ColumnFault, column_memory, no_column, no_base, OperandFault, operand_memory, in_column, no_value, ChoiceFault, choice_too_deep, no_square, in_chooser, square_unclosed, no_sides, sides_too_deep, CondFault, cond_memory, in_first_conjunction, in_next_conjunction, in_first_negation, in_next_negation, not_too_deep, in_not, cond_too_deep, in_cond_brackets, cond_unclosed, in_cond_choice, in_left_cond, no_right_cond, in_right_cond, cond_sides_unclosed, in_left_operand, no_comparison, in_right_operand, WhereFault, WhenFault, ItemFault, in_item_column, in_rename, in_item_when, ItemsFault, items_memory, in_first_item, in_next_item}
+use Rattle.query_parser.specs.Lexemes.{lexeme_at, stands, name_at, op_at}
+use Rattle.query_parser.specs.Parts.{IsColumn, plain_column, prefixed_column, IsOperand, column_operand, value_operand, IsChoice, IsRename, no_rename, some_rename, IsItemWhen, no_item_when, some_item_when, IsWhen, no_when, some_when, IsItem, ItemsTo, one_item, another_item, AreItems, all_items, listed_items}
 use Rattle.query_parser.specs.StatementGrammar.{takes}
 use Rattle.query_parser.specs.Truths.{truth_in}
 use Rattle.query_parser.specs.declared.fault.ParseFault.{ParseFault}
 use Rattle.query_parser.specs.declared.fault.ParseFault.TheVariants as fault
-use Rattle.query_parser.specs.declared.lexeme.Lexeme.{Lexeme}
 use Rattle.query_parser.specs.declared.lexeme.Lexeme.TheVariants as lexeme
 use Rattle.query_parser.specs.declared.lexeme.TheConstants.{NESTING_LIMIT}
-use Rattle.query_parser.proofs.Programs.{Goal, AColumn, AnOperand, AChoice, ARename, AnItemWhen, AWhen, AnItem, MoreItems, TheItems, ACondition, MoreOr, AConjunction, MoreAnd, ANegation, AWhere, Program, Ask, AskExpression, compared, behind_chooser, Runs, ends, asks, expresses, refuses}
+use Rattle.query_parser.proofs.Programs.{AColumn, AnOperand, AChoice, ARename, AnItemWhen, AWhen, AnItem, MoreItems, TheItems, ACondition, MoreOr, AConjunction, MoreAnd, ANegation, AWhere, Program, Ask, compared, behind_chooser, Runs, ends, asks, expresses, refuses}
 use Rattle.query_parser.proofs.SignLaws.{IsValue, name_takes, value_takes}
 use Rattle.query_parser.proofs.Walks.{apart, not_both}
 

@@ -1,9 +1,7 @@
 -- What queries spell is what their programs come to, and so is each fault.
-use Rattle.std.proofs.Common.{◌≡◌, ◌≢◌, ℕ, ◌+◌, Bool, true, false, List, Option, Some, None, Result, Ok, Err, refl}
-use Rattle.feature_expr.specs.declared.expr.Expr.{Expr}
+use Rattle.std.proofs.Common.{◌≡◌, ◌≢◌, ℕ, ◌+◌, Bool, true, false, List, Option, Some, None, Err, refl}
 use Rattle.feature_expr.specs.declared.token.Token.{Token}
 use Rattle.vra_syntax.specs.declared.query.Query.{Query}
-use Rattle.vra_syntax.specs.declared.query.Query as query
 use Rattle.query_parser.specs.Conditions.{Condition}
 use Rattle.query_parser.specs.Faults.{QueryFault, query_memory, in_first_term, in_union_term, in_except_term, in_items, no_from, in_source, in_select_where, in_simple_term, no_simple_query, query_too_deep, in_query_brackets, query_unclosed, in_query_choice, in_left_query, no_right_query, in_right_query, query_sides_unclosed, in_first_source, in_joined_source, no_on, in_on, in_source_term, no_alias}
 use Rattle.query_parser.specs.Lexemes.{lexeme_at, stands, name_at}
@@ -12,7 +10,7 @@ use Rattle.query_parser.specs.StatementGrammar.{takes}
 use Rattle.query_parser.specs.declared.fault.ParseFault.{ParseFault}
 use Rattle.query_parser.specs.declared.fault.ParseFault.TheVariants as fault
 use Rattle.query_parser.specs.declared.lexeme.Lexeme.TheVariants as lexeme
-use Rattle.query_parser.proofs.Programs.{TheItems, AWhere, AQuery, MoreTerms, ATerm, ASimple, ASource, MoreJoins, ASourceTerm, Program, Ask, ends, asks}
+use Rattle.query_parser.proofs.Programs.{AQuery, MoreTerms, ATerm, ASimple, ASource, MoreJoins, ASourceTerm, Program, Ask, ends, asks}
 use Rattle.query_parser.proofs.ProgramParts.{below, above, Answer, R, other_sign, reads_choice, choice_begins, fails_choice, reads_items, fails_items, reads_cond, fails_cond, reads_where, fails_where}
 use Rattle.query_parser.proofs.SignLaws.{name_takes}
 use Rattle.query_parser.proofs.Walks.{apart, not_both}

@@ -1,12 +1,11 @@
 -- What writes, other statements and whole texts spell is what their programs come to, and so is each fault. So a text is
 -- one list of statements alone, or has one fault.
-use Rattle.std.proofs.Common.{◌≡◌, ◌≢◌, ℕ, ◌+◌, ◌==◌, ◌||◌, Bool, true, false, List, [], ◌∷◌, ◌++◌, length, Option, Some, None, Result, Ok, Err, inl, inr, refl, arith}
+use Rattle.std.proofs.Common.{◌≡◌, ◌≢◌, ℕ, ◌+◌, ◌==◌, ◌||◌, Bool, true, false, List, [], ◌∷◌, length, Some, Ok, Err, refl, arith}
 use Rattle.std.proofs.lemmas.Bool.Decides.{nat_tests}
 use Rattle.feature_expr.specs.declared.expr.Expr.{Expr}
 use Rattle.feature_expr.specs.declared.token.Token.{Token}
 use Rattle.vra_syntax.specs.declared.cond.Cond.{Cond}
 use Rattle.vra_syntax.specs.declared.cond.Operand.{Operand}
-use Rattle.vra_syntax.specs.declared.query.Query.{Query}
 use Rattle.vra_syntax.specs.declared.statement.Statement.{Statement}
 use Rattle.vra_syntax.specs.declared.statement.Statement.TheVariants as statement
 use Rattle.vra_syntax.specs.declared.write.SetItem.{SetItem}
@@ -15,11 +14,11 @@ use Rattle.query_parser.specs.Lexemes.{lexeme_at, stands, name_at, value_at}
 use Rattle.query_parser.specs.Queries.{WholeQuery}
 use Rattle.query_parser.specs.StatementGrammar.{is_word, takes}
 use Rattle.query_parser.specs.Statements.{NamesTo, one_name, another_name, ValuesTo, one_value, another_value, IsTuple, TuplesTo, one_tuple, another_tuple, IsSetItem, SetItemsTo, one_set_item, another_set_item, IsInsert, IsDelete, IsUpdate, IsTail, no_tail, transaction_tail, work_tail, IsSetting, word_setting, integer_setting, text_setting, SpellsStatement, begin_statement, commit_statement, rollback_statement, set_statement, insert_statement, delete_statement, update_statement, query_statement, StatementsBefore, no_statement_yet, no_statement_here, another_statement, AreStatements, ends_bare, ends_with_statement}
-use Rattle.query_parser.specs.WriteFaults.{NamesFault, names_memory, no_first_name, no_next_name, names_unclosed, TupleFault, tuple_memory, no_tuple, no_first_value, no_next_value, tuple_unclosed, another_count, TuplesFault, tuples_memory, in_first_tuple, in_next_tuple, SetItemFault, set_item_memory, no_set_column, no_equal, no_set_value, SetItemsFault, set_items_memory, in_first_set_item, in_next_set_item, InsertFault, insert_memory, no_into, no_insert_table, no_names, in_names, no_values, in_tuples, in_insert_when, DeleteFault, delete_memory, no_delete_from, no_delete_table, in_delete_where, in_delete_when, UpdateFault, update_memory, no_update_table, no_set, in_set_items, in_update_where, in_update_when, SettingFault, no_setting, no_to, no_setting_value, setting_too_large, BeginsQuery, StatementFault, statement_memory, in_setting, in_insert, in_delete, in_update, in_query, StatementsFault, statements_memory, in_statement, statement_unended}
+use Rattle.query_parser.specs.WriteFaults.{NamesFault, names_memory, no_first_name, no_next_name, names_unclosed, TupleFault, tuple_memory, no_tuple, no_first_value, no_next_value, tuple_unclosed, another_count, TuplesFault, tuples_memory, in_first_tuple, in_next_tuple, SetItemFault, set_item_memory, no_set_column, no_equal, no_set_value, SetItemsFault, set_items_memory, in_first_set_item, in_next_set_item, InsertFault, insert_memory, no_into, no_insert_table, no_names, in_names, no_values, in_tuples, in_insert_when, DeleteFault, delete_memory, no_delete_from, no_delete_table, in_delete_where, in_delete_when, UpdateFault, update_memory, no_update_table, no_set, in_set_items, in_update_where, in_update_when, SettingFault, no_setting, no_to, no_setting_value, setting_too_large, StatementFault, statement_memory, in_setting, in_insert, in_delete, in_update, in_query, StatementsFault, statements_memory, in_statement, statement_unended}
 use Rattle.query_parser.specs.declared.fault.ParseFault.{ParseFault}
 use Rattle.query_parser.specs.declared.fault.ParseFault.TheVariants as fault
 use Rattle.query_parser.specs.declared.lexeme.Lexeme.TheVariants as lexeme
-use Rattle.query_parser.proofs.Programs.{AWhere, AWhen, MoreNames, MoreValues, ATuple, MoreTuples, ASetItem, MoreSetItems, ATail, ASetting, AStatement, MoreStatements, Program, Done, Ask, Fails, need, named, insert_program, delete_program, update_program, Runs, ends, asks, one_answer}
+use Rattle.query_parser.proofs.Programs.{MoreNames, MoreValues, ATuple, MoreTuples, ASetItem, MoreSetItems, ATail, ASetting, AStatement, MoreStatements, Program, Done, Ask, Fails, need, named, insert_program, delete_program, update_program, ends, asks, one_answer}
 use Rattle.query_parser.proofs.ProgramParts.{Answer, R, not_true, other_sign, reads_when, fails_when, reads_where, fails_where}
 use Rattle.query_parser.proofs.ProgramQueries.{reads_query, fails_query}
 use Rattle.query_parser.proofs.StatementWalks.{begins_query, first_isnt, query_first}

@@ -1,5 +1,5 @@
 -- What a text spells is printed as a text that spells it alone.
-use Rattle.std.proofs.Common.{Bool, ◌≡◌, ℕ, List, [], ◌∷◌, ◌++◌, None, Result, Ok, Err, refl}
+use Rattle.std.proofs.Common.{Bool, ◌≡◌, ℕ, List, [], ◌∷◌, ◌++◌, None, Ok, Err, refl}
 use Rattle.feature_expr.specs.Names.{refusal}
 use Rattle.feature_expr.proofs.TokenLaws.{has_tokens}
 use Rattle.vra_syntax.specs.declared.statement.Statement.{Statement}

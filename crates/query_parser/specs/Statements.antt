@@ -8,7 +8,6 @@ use Rattle.vra_syntax.specs.declared.query.Query.{Query}
 use Rattle.vra_syntax.specs.declared.statement.Statement.{Statement}
 use Rattle.vra_syntax.specs.declared.statement.Statement.TheVariants as statement
 use Rattle.vra_syntax.specs.declared.write.SetItem.{SetItem}
-use Rattle.vra_syntax.specs.declared.write.Write.{Write}
 use Rattle.vra_syntax.specs.declared.write.Write.TheVariants as write
 use Rattle.query_parser.specs.Conditions.{IsWhere}
 use Rattle.query_parser.specs.Lexemes.{lexeme_at, stands, name_at, value_at}

@@ -1,15 +1,14 @@
 -- How a transaction begins.
-use Rattle.std.proofs.Common.{◌≡◌, ◌∙◌, ℕ, true, List, [], ◌∷◌, ◌++◌, inl, inr, Some, None, refl, sym, ap, subst, arith, append-nil}
+use Rattle.std.proofs.Common.{◌≡◌, ◌∙◌, ℕ, true, [], ◌∷◌, ◌++◌, inl, inr, Some, None, refl, sym, ap, subst, arith, append-nil}
 use Rattle.session_poll.specs.declared.refusal.Refusal.TheVariants as refusal
 use Rattle.session_poll.specs.declared.session.Session.{Session}
-use Rattle.session_poll.specs.declared.state.Transaction.{Transaction}
 use Rattle.session_poll.specs.declared.state.Transaction.TheVariants as transactions
-use Rattle.session_poll.specs.Begins.{Begins, BeginsIn, BeginsNew}
+use Rattle.session_poll.specs.Begins.{Begins, BeginsIn}
 use Rattle.session_poll.specs.Courses.{Course, Begun, goes, stops}
 use Rattle.session_poll.specs.Parts.{Keeps, KeepsState, Done}
 use Rattle.session_poll.specs.Replies.{spelled, snapshot_told}
 use Rattle.session_poll.specs.Runs.{HasSnapshot}
-use Rattle.session_poll.specs.Session.{state_of, held_of, waiting_of}
+use Rattle.session_poll.specs.Session.{state_of, waiting_of}
 use Rattle.session_poll.specs.State.{State, in_transaction}
 use Rattle.session_poll.proofs.CourseLaws.{keeps_same}
 

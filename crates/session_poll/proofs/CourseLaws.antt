@@ -4,10 +4,9 @@ use Rattle.std.proofs.lemmas.Grind.{flat_map-append}
 use Rattle.pg_messages.specs.BackSpelling.{back_bytes}
 use Rattle.pg_messages.specs.declared.back.Back.{Back}
 use Rattle.session_poll.specs.declared.session.Session.{Session}
-use Rattle.session_poll.specs.declared.state.Transaction.{Transaction}
 use Rattle.session_poll.specs.declared.state.Transaction.TheVariants as transactions
 use Rattle.session_poll.specs.Courses.{Course, Event}
-use Rattle.session_poll.specs.Parts.{Keeps, KeepsState, KeepsLog}
+use Rattle.session_poll.specs.Parts.{Keeps, KeepsLog}
 use Rattle.session_poll.specs.Replies.{spelled}
 use Rattle.session_poll.specs.Runs.{AllFit, HasSnapshot}
 use Rattle.session_poll.specs.Session.{state_of}

@@ -1,5 +1,5 @@
 -- A step of the session machine, by what its rule left.
-use Rattle.std.proofs.Common.{◌≡◌, ◌∙◌, ℕ, ◌≤◌, Bool, true, false, not, List, [], ◌∷◌, ◌++◌, length, take, drop, Option, Some, None, is_some, refl, sym, ap, subst, take-append-drop, take_all, length-take-le, le_of_eq, arith}
+use Rattle.std.proofs.Common.{◌≡◌, ◌∙◌, ℕ, ◌≤◌, true, not, List, [], ◌++◌, length, take, drop, Option, Some, None, refl, sym, ap, subst, take-append-drop, take_all, length-take-le, le_of_eq}
 use Rattle.pg_messages.specs.FrontReading.{front_head, front_of, is_query}
 use Rattle.pg_messages.specs.FrontSpelling.{IsFront}
 use Rattle.pg_messages.specs.Packet.{length_of, is_more}
@@ -16,12 +16,11 @@ use Rattle.session_poll.specs.declared.state.Phase.{Phase}
 use Rattle.session_poll.specs.declared.state.Phase.TheVariants as phases
 use Rattle.session_poll.specs.Courses.{Course, Input, StartUp, Message, Bad, Unread, Next}
 use Rattle.session_poll.specs.Packets.{is_bad, IsStartupCut, IsFrontCut, IsReadAs}
-use Rattle.session_poll.specs.Parts.{Keeps, Same, Drops, Skips, Takes, Moved, Idles}
+use Rattle.session_poll.specs.Parts.{Same, Drops, Skips, Takes, Moved, Idles}
 use Rattle.session_poll.specs.Queries.{RunsStatement, RunsOut, EndsQuery}
 use Rattle.session_poll.specs.Replies.{spelled}
-use Rattle.session_poll.specs.Runs.{AllFit, HasSnapshot}
-use Rattle.session_poll.specs.Session.{state_of, held_of, waiting_of}
-use Rattle.session_poll.specs.Standing.{works}
+use Rattle.session_poll.specs.Runs.{HasSnapshot}
+use Rattle.session_poll.specs.Session.{state_of, held_of}
 use Rattle.session_poll.specs.StartUps.{Rejects, StartsUp}
 use Rattle.session_poll.specs.State.{State, in_phase}
 use Rattle.session_poll.specs.Steps.{Handles, Refuses, Step}

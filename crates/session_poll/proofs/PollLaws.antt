@@ -1,16 +1,15 @@
 -- A poll, by whether a step was taken.
-use Rattle.std.proofs.Common.{◌≡◌, ◌∙◌, ℕ, ◌≤◌, Bool, true, false, List, [], ◌∷◌, ◌++◌, length, inl, inr, refl, sym, ap, subst, append-nil, true≢false, arith}
+use Rattle.std.proofs.Common.{◌≡◌, ◌∙◌, ℕ, Bool, true, false, List, [], ◌∷◌, ◌++◌, inl, inr, refl, sym, ap, subst, append-nil, true≢false, arith}
 use Rattle.session_poll.specs.declared.opening.Opening.{Opening}
 use Rattle.session_poll.specs.declared.polled.Polled.{Polled}
 use Rattle.session_poll.specs.declared.polled.Polled.TheVariants as polled
 use Rattle.session_poll.specs.declared.session.Session.{Session}
 use Rattle.session_poll.specs.Output.{is_empty}
-use Rattle.session_poll.specs.Parts.{Same, Moved, Idles, Moves}
+use Rattle.session_poll.specs.Parts.{Same, Moves}
 use Rattle.session_poll.specs.Polls.{Polls}
 use Rattle.session_poll.specs.Runs.{Did, IsAt}
-use Rattle.session_poll.specs.Session.{state_of, held_of, waiting_of}
+use Rattle.session_poll.specs.Session.{held_of, waiting_of}
 use Rattle.session_poll.specs.Standing.{stands, standing_of, works}
-use Rattle.session_poll.specs.State.{State}
 use Rattle.session_poll.proofs.RunLaws.{at_same, at_moved}
 
 abbrev is_again : Polled → Bool

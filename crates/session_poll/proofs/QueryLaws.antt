@@ -1,5 +1,5 @@
 -- The query rule, part by part.
-use Rattle.std.proofs.Common.{◌≡◌, ◌∙◌, ℕ, true, List, [], ◌∷◌, ◌++◌, inl, inr, ◌⊎◌, Option, Some, None, Ok, Err, refl, sym, ap, subst, append_assoc, append-nil}
+use Rattle.std.proofs.Common.{◌≡◌, ◌∙◌, ℕ, List, [], ◌∷◌, ◌++◌, inl, inr, ◌⊎◌, Option, Some, None, Ok, Err, refl, sym, ap, subst, append-nil}
 use Rattle.pg_messages.specs.declared.back.Back.{Back}
 use Rattle.session_poll.specs.declared.fixed.TheConstants.{EMPTY_AND_READY, NOT_BUILT, OUT_OF_MEMORY_AND_READY, READY}
 use Rattle.session_poll.specs.declared.opening.Opening.{Opening}
@@ -9,7 +9,7 @@ use Rattle.session_poll.specs.declared.session.Session.{Session}
 use Rattle.session_poll.specs.declared.state.Phase.TheVariants as phases
 use Rattle.session_poll.specs.Begins.{Begins}
 use Rattle.session_poll.specs.Courses.{Course, Follows, Then, goes, both}
-use Rattle.session_poll.specs.Parts.{Keeps, KeepsState, IsReady, IsEnded, IsTaken, Done, Takes, Told, ToldEnd, Failed}
+use Rattle.session_poll.specs.Parts.{KeepsState, IsReady, IsEnded, IsTaken, Done, Takes, Told, ToldEnd, Failed}
 use Rattle.session_poll.specs.Queries.{IsRead, Queries, RunsAs, RunsStatement, RunsAll, SaysEmpty, Runs, RunsOut, Closes, EndsQuery}
 use Rattle.session_poll.specs.Replies.{spelled, error_of, empty_query, ready_for_query}
 use Rattle.session_poll.specs.Runs.{HasSnapshot}
@@ -18,7 +18,7 @@ use Rattle.session_poll.specs.StartUps.{Rejects}
 use Rattle.session_poll.specs.State.{State, in_phase, ready, ended}
 use Rattle.session_poll.specs.Tables.{bare_table, AnswersTable}
 use Rattle.vra_syntax.specs.declared.statement.Statement.{Statement}
-use Rattle.session_poll.proofs.CourseLaws.{put_behind, put_bytes, fit_append, keeps_same, keeps_on, log_closed}
+use Rattle.session_poll.proofs.CourseLaws.{put_behind, put_bytes, fit_append, keeps_on, log_closed}
 use Rattle.session_poll.proofs.FixedLaws.{empty_and_ready_is, not_built_is, out_of_memory_and_ready_is, ready_is}
 
 pub then_goes : (first second : State → Course → Type 0) (old mid new : Session) (refused : Option Refusal) → Done first old None mid → Done second mid refused new → Done (Then first second) old refused new

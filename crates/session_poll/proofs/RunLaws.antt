@@ -2,12 +2,12 @@
 use Rattle.std.proofs.Common.{◌≡◌, ◌∙◌, ℕ, List, [], ◌∷◌, ◌++◌, refl, sym, ap, subst, append_assoc, append-nil}
 use Rattle.session_poll.specs.declared.opening.Opening.{Opening}
 use Rattle.session_poll.specs.declared.session.Session.{Session}
-use Rattle.session_poll.specs.Courses.{Course, Event}
+use Rattle.session_poll.specs.Courses.{Event}
 use Rattle.session_poll.specs.Packets.{IsReadAs}
 use Rattle.session_poll.specs.Parts.{Same, Moved}
 use Rattle.session_poll.specs.Replies.{spelled}
-use Rattle.session_poll.specs.Runs.{Did, IsRunFrom, IsRun, end_from, end_of, bytes_read, replied, events_of, AllFit, HasSnapshot, IsAt}
-use Rattle.session_poll.specs.Session.{state_of, held_of, waiting_of}
+use Rattle.session_poll.specs.Runs.{Did, IsRunFrom, end_from, bytes_read, replied, events_of, AllFit, HasSnapshot, IsAt}
+use Rattle.session_poll.specs.Session.{held_of, waiting_of}
 use Rattle.session_poll.specs.State.{State, opening_state}
 use Rattle.session_poll.specs.Steps.{Step}
 use Rattle.session_poll.proofs.CourseLaws.{fit_append}

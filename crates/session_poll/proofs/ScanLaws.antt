@@ -1,5 +1,5 @@
 -- A table as it stands in the catalogue is a right answer.
-use Rattle.std.proofs.Common.{◌≡◌, ◌∙◌, ℕ, ◌+◌, ◌≤◌, ◌==◌, Bool, true, false, not, ◌&&◌, ◌||◌, List, [], ◌∷◌, map, filter, length, slice_get, Option, Some, None, if◌then◌else◌, All, suc, bytes_eq, refl, sym, ap, ap₂, subst, subst₂, arith, le_of_eq, true≢false, eq-eqb, ◌++◌, append_assoc, append-nil}
+use Rattle.std.proofs.Common.{◌≡◌, ◌∙◌, ℕ, ◌+◌, ◌≤◌, Bool, true, false, not, ◌&&◌, ◌||◌, List, [], ◌∷◌, map, filter, length, slice_get, Option, Some, None, if◌then◌else◌, All, suc, bytes_eq, refl, sym, ap, ap₂, subst, subst₂, arith, le_of_eq, true≢false, eq-eqb, ◌++◌, append_assoc, append-nil}
 use Rattle.std.proofs.lemmas.Bool.{eqb-true}
 use Rattle.std.proofs.lemmas.List.{length-map}
 use Rattle.std.proofs.lemmas.List.Sums.{AllPass-from_list_all, sum_by-cons}
@@ -10,7 +10,7 @@ use Rattle.feature_expr.specs.declared.expr.Expr as e
 use Rattle.std.proofs.lemmas.Option.{slice_get_within, get_or_from_slice_get}
 use Rattle.std.specs.List.{list_all, list_any}
 use Rattle.condition_sat.specs.Admitted.{IsAdmitted}
-use Rattle.feature_expr.specs.Expressions.{and_of, weight_of}
+use Rattle.feature_expr.specs.Expressions.{weight_of}
 use Rattle.feature_expr.specs.Satisfaction.{satisfies}
 use Rattle.feature_expr.specs.Names.{among}
 use Rattle.feature_expr.specs.Value.{kind_of}
@@ -29,7 +29,7 @@ use Rattle.vschema.specs.declared.catalog.OpeningRow.{OpeningRow}
 use Rattle.vschema.specs.declared.catalog.Table.{Table}
 use Rattle.vschema.specs.Formed.{distinct, column_names, has_distinct_columns, CellsFit, FitsTable, RowFits}
 use Rattle.vschema.specs.Gaps.{misses_value, columns_without, has_all_values, has_all_values_in, have_all_values}
-use Rattle.vschema.specs.Variants.{has_column, is_row_of, opening_at, opening_database, table_in}
+use Rattle.vschema.specs.Variants.{has_column, opening_at, opening_database, table_in}
 use Rattle.vschema.specs.Variants as variants
 use Rattle.vtable.specs.Answers.{IsAnswerAt, answer_at}
 use Rattle.vtable.specs.Answers as answers

@@ -1,10 +1,8 @@
 -- The calls of a session beside its polls.
-use Rattle.std.proofs.Common.{◌≡◌, ◌∙◌, ℕ, zero, suc, ◌≤◌, min, List, [], ◌∷◌, ◌++◌, length, take, drop, refl, sym, ap, subst, append_assoc, append-nil, take-append-drop, take_all, arith}
+use Rattle.std.proofs.Common.{◌≡◌, ◌∙◌, ℕ, zero, suc, min, List, [], ◌∷◌, ◌++◌, length, take, drop, refl, sym, ap, subst, append_assoc, take-append-drop, arith}
 use Rattle.session_poll.specs.declared.opening.Opening.{Opening}
 use Rattle.session_poll.specs.declared.session.Session.{Session}
-use Rattle.session_poll.specs.declared.state.Phase.TheVariants as phases
-use Rattle.session_poll.specs.declared.state.Transaction.TheVariants as transactions
-use Rattle.session_poll.specs.Runs.{Did, bytes_read, replied, HasSnapshot, IsAt}
+use Rattle.session_poll.specs.Runs.{Did, bytes_read, HasSnapshot, IsAt}
 use Rattle.session_poll.specs.Session.{state_of, held_of, waiting_of}
 use Rattle.session_poll.specs.State.{State, opening_state}
 

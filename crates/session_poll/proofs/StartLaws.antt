@@ -1,12 +1,12 @@
 -- The start-up rule.
-use Rattle.std.proofs.Common.{◌≡◌, ◌∙◌, ℕ, Bool, true, false, MatchBool, List, [], ◌∷◌, ◌++◌, inl, inr, refl, sym, ap, subst, true≢false}
+use Rattle.std.proofs.Common.{◌≡◌, ◌∙◌, ℕ, Bool, true, false, MatchBool, List, [], ◌∷◌, ◌++◌, inl, inr, refl, sym, ap, true≢false}
 use Rattle.pg_messages.specs.declared.startup.Startup.{Startup}
 use Rattle.session_poll.specs.declared.fixed.TheConstants.{OUT_OF_MEMORY}
 use Rattle.session_poll.specs.declared.opening.Opening.{Opening}
 use Rattle.session_poll.specs.declared.refusal.Refusal.TheVariants as refusal
 use Rattle.session_poll.specs.declared.session.Session.{Session}
 use Rattle.session_poll.specs.declared.state.Phase.TheVariants as phases
-use Rattle.session_poll.specs.Courses.{Course, goes}
+use Rattle.session_poll.specs.Courses.{goes}
 use Rattle.session_poll.specs.Parts.{KeepsState, Keeps, Takes}
 use Rattle.session_poll.specs.Replies.{spelled, error_of}
 use Rattle.session_poll.specs.Session.{state_of, waiting_of}

@@ -1,10 +1,9 @@
 -- The last value of a parameter, and names with commas between them.
-use Rattle.std.proofs.Common.{◌≡◌, ◌∙◌, ℕ, zero, suc, ◌+◌, ◌<◌, ◌==◌, Bool, true, false, List, [], ◌∷◌, ◌++◌, length, take, slice_get, Option, Some, None, unwrap_or, if◌then◌else◌, bytes_eq, codes, refl, sym, ap, subst, arith, append_assoc, append-nil, ne_eqb}
-use Rattle.std.proofs.lemmas.Grind.{flat_map-append}
+use Rattle.std.proofs.Common.{◌≡◌, ◌∙◌, ℕ, zero, suc, ◌+◌, ◌<◌, ◌==◌, Bool, true, false, List, [], ◌∷◌, ◌++◌, length, take, Option, Some, None, if◌then◌else◌, bytes_eq, codes, refl, sym, ap, arith, append_assoc, append-nil, ne_eqb}
 use Rattle.std.specs.List.{flat_map}
 use Rattle.feature_expr.specs.Printing.{name_of}
 use Rattle.pg_messages.specs.declared.startup.Pair.{Pair}
-use Rattle.session_poll.specs.StartUps.{later_or, value_in, value_of, listed, behind_comma, piece}
+use Rattle.session_poll.specs.StartUps.{later_or, value_of, listed, behind_comma, piece}
 
 later_none : (rest found : Option (List ℕ)) → later_or (later_or rest None) found ≡ later_or rest found
 later_none None found = refl

@@ -1,11 +1,10 @@
 -- The statement that is a table's name.
-use Rattle.std.proofs.Common.{◌≡◌, ◌∙◌, ℕ, suc, ◌<◌, ◌≤◌, Bool, true, false, List, [], ◌∷◌, ◌++◌, length, slice_get, position, inl, inr, Option, Some, None, refl, sym, ap, subst, append-nil, MatchOption, arith}
+use Rattle.std.proofs.Common.{◌≡◌, ◌∙◌, ℕ, Bool, true, List, [], ◌∷◌, ◌++◌, slice_get, position, inl, inr, Some, None, refl, sym, ap, subst, append-nil, MatchOption}
 use Rattle.std.proofs.lemmas.List.Quantifiers.{position-Some}
 use Rattle.std.proofs.lemmas.Option.{slice_get-get_or}
 use Rattle.session_poll.proofs.CourseLaws.{keeps_on, put_bytes}
 use Rattle.pg_messages.specs.BackSpelling.{back_bytes}
 use Rattle.pg_messages.specs.declared.back.Back.{Back}
-use Rattle.feature_expr.specs.declared.expr.Expr.{Expr}
 use Rattle.session_poll.specs.declared.opening.Opening.{Opening}
 use Rattle.session_poll.specs.declared.refusal.Refusal.TheVariants as refusal
 use Rattle.session_poll.specs.declared.session.Session.{Session}
@@ -17,11 +16,9 @@ use Rattle.session_poll.specs.Courses.{Course, goes, stops}
 use Rattle.session_poll.specs.Parts.{Keeps, KeepsState, Done, PutsAnswer, PutsAll}
 use Rattle.session_poll.specs.Replies.{spelled}
 use Rattle.session_poll.specs.Runs.{AllFit, HasSnapshot}
-use Rattle.session_poll.specs.Scans.{scanned}
-use Rattle.session_poll.specs.Servable.{IsServable}
 use Rattle.session_poll.specs.Session.{state_of, waiting_of}
 use Rattle.session_poll.specs.State.{State, in_phase}
-use Rattle.session_poll.specs.Tables.{number_of, view_of, Answered, Found, ShowsTable, Finds, AnswersTable}
+use Rattle.session_poll.specs.Tables.{number_of, view_of, ShowsTable, Finds, AnswersTable}
 use Rattle.vra_syntax.specs.declared.statement.Statement.{Statement}
 use Rattle.vschema.specs.declared.catalog.Table.{Table}
 

@@ -1,5 +1,5 @@
 -- How an answer is spelled in messages: a description of its columns, and a row of data for each of its rows.
-use Rattle.std.specs.Prelude.{ℕ, ℤ, pos, neg_ℤ, Bool, true, false, List, [], ◌∷◌, ◌++◌, map, length, codes, decimal, Option, Some, None}
+use Rattle.std.specs.Prelude.{ℕ, pos, neg_ℤ, true, false, List, [], ◌∷◌, ◌++◌, map, length, codes, decimal, Option, Some, None}
 use Rattle.std.specs.Fmt.{signed_decimal}
 use Rattle.feature_expr.specs.Printing.{text_of}
 use Rattle.feature_expr.specs.declared.column_name.ColName.{ColName}

@@ -1,5 +1,5 @@
 -- The answer to a bare table.
-use Rattle.std.specs.Prelude.{◌≡◌, ℕ, ◌+◌, ◌≤◌, ◌==◌, Bool, List, [], ◌∷◌, map, filter, length, Option, Some, None, if◌then◌else◌}
+use Rattle.std.specs.Prelude.{◌≡◌, ℕ, ◌+◌, ◌≤◌, Bool, List, [], ◌∷◌, map, filter, length, if◌then◌else◌}
 use Rattle.condition_sat.specs.Admitted.{IsAdmitted}
 use Rattle.feature_expr.specs.Expressions.{and_of, weight_of}
 use Rattle.feature_expr.specs.declared.expr.Expr.{Expr}
@@ -15,7 +15,6 @@ use Rattle.vtable.specs.Answers.{answer_at, IsAnswerAt}
 use Rattle.vtable.specs.Possible.{can_hold}
 use Rattle.vtable.specs.TableForm.{rows_weight, IsTableForm}
 use Rattle.vtable.specs.declared.table.VColumn.{VColumn}
-use Rattle.vtable.specs.declared.table.VRow.{VRow}
 use Rattle.vtable.specs.declared.table.VTable.{VTable}
 
 -- Bounds of a table: the number of its opening rows, the weight of their conditions, and that of the conditions of its

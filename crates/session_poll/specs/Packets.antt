@@ -1,5 +1,5 @@
 -- How the grammar of messages cuts the input into packets.
-use Rattle.std.specs.Prelude.{◌≡◌, ℕ, Bool, true, false, List, [], ◌++◌, length, Option, Some}
+use Rattle.std.specs.Prelude.{◌≡◌, ℕ, Bool, true, false, List, [], ◌++◌, length, Some}
 use Rattle.pg_messages.specs.FrontReading.{front_head, front_of, is_query}
 use Rattle.pg_messages.specs.FrontSpelling.{IsFront}
 use Rattle.pg_messages.specs.Packet.{length_of}

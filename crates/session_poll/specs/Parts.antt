@@ -1,5 +1,5 @@
 -- What the parts of a step leave of a session.
-use Rattle.std.specs.Prelude.{◌≡◌, ℕ, ◌≤◌, Bool, true, false, List, [], ◌∷◌, ◌++◌, ◌⊎◌, drop, length, Option, Some, None}
+use Rattle.std.specs.Prelude.{◌≡◌, ℕ, ◌≤◌, Bool, true, false, [], ◌∷◌, ◌++◌, ◌⊎◌, drop, length, Option, Some, None}
 use Rattle.pg_messages.specs.declared.back.Back.{Back}
 use Rattle.session_poll.specs.declared.opening.Opening.{Opening}
 use Rattle.session_poll.specs.declared.refusal.Refusal.{Refusal}

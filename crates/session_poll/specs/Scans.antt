@@ -1,5 +1,5 @@
 -- What a table says in every variant before any commit.
-use Rattle.std.specs.Prelude.{ℕ, ◌==◌, Bool, List, map, filter, Option}
+use Rattle.std.specs.Prelude.{ℕ, ◌==◌, Bool, List, map, filter}
 use Rattle.feature_expr.specs.Expressions.{and_of}
 use Rattle.vschema.specs.Variants.{bare_name}
 use Rattle.vschema.specs.declared.catalog.Column.{Column}

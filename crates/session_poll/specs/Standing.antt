@@ -1,5 +1,5 @@
 -- How a session stands between two polls.
-use Rattle.std.specs.Prelude.{◌≡◌, ℕ, Bool, true, false, not, ◌&&◌, ◌||◌, List, [], ◌∷◌, if◌then◌else◌, ◌⊎◌}
+use Rattle.std.specs.Prelude.{◌≡◌, ℕ, Bool, true, false, not, ◌&&◌, ◌||◌, List, ◌⊎◌}
 use Rattle.pg_messages.specs.FrontReading.{front_of}
 use Rattle.pg_messages.specs.Packet.{is_more}
 use Rattle.pg_messages.specs.StartupReading.{startup_of}

@@ -1,5 +1,5 @@
 -- The session machine: which rule each input has in each phase.
-use Rattle.std.specs.Prelude.{◌≡◌, ℕ, [], ◌∷◌}
+use Rattle.std.specs.Prelude.{◌≡◌, [], ◌∷◌}
 use Rattle.pg_messages.specs.declared.front.Front.{Front}
 use Rattle.pg_messages.specs.declared.front.Front.TheVariants as front
 use Rattle.session_poll.specs.declared.opening.Opening.{Opening}

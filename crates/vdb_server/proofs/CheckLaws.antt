@@ -1,5 +1,5 @@
 -- What a check put out, where it ends before its line.
-use Rattle.std.proofs.Common.{◌≡◌, ℕ, List, refl}
+use Rattle.std.proofs.Common.{ℕ, List, refl}
 use Rattle.vdb_server.specs.Checks.{IsToldExit}
 use Rattle.vdb_server.specs.Exits.{IsOpeningExit}
 use Rattle.vdb_server.specs.Sinks.{Held}

@@ -1,18 +1,15 @@
 -- A catalogue that passes its check is refused for no cause.
-use Rattle.std.proofs.Common.{◌≡◌, ◌≢◌, ℕ, List, refl}
-use Rattle.vra_types.specs.Check as check
+use Rattle.std.proofs.Common.{◌≢◌, ℕ, List}
 use Rattle.vra_types.specs.declared.refused.CheckRefused.{CheckRefused}
 use Rattle.vra_types.specs.declared.refused.CheckRefused.TheVariants as unpassed
 use Rattle.vra_types.proofs.PassLaws.{unrefused}
-use Rattle.vschema.specs.Files.{IsCatalogue}
 use Rattle.vschema.specs.Refusals.{Refuses}
 use Rattle.vschema.specs.declared.catalog.Catalog.{Catalog}
-use Rattle.vschema.specs.declared.catalog.OpeningRow.{OpeningRow}
 use Rattle.vschema.specs.declared.refused.CatalogRefused.{CatalogRefused}
 use Rattle.vschema.specs.declared.refused.CatalogRefused.TheVariants as refused
 use Rattle.vschema.proofs.FileLaws.{one_catalogue, faultless}
 use Rattle.vdb_server.specs.Checks.{ArePassing, IsReady}
-use Rattle.vdb_server.specs.Exits.{IsUnpassed, RefusedFor, IsRefusedFile, HasNoFault}
+use Rattle.vdb_server.specs.Exits.{IsUnpassed, RefusedFor, HasNoFault}
 use Rattle.vdb_server.specs.Sinks.{Held}
 use Rattle.vdb_server.specs.Sources.{Files}
 use Rattle.vdb_server.specs.declared.exit.CatalogueFault.{CatalogueFault}

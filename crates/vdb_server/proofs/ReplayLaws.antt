@@ -2,11 +2,10 @@
 use Rattle.std.proofs.Common.{◌≡◌, ◌∙◌, ℕ, zero, suc, ◌+◌, ◌<◌, ◌≤◌, Bool, true, false, not, ◌&&◌, ◌||◌, List, [], ◌∷◌, ◌++◌, length, take, drop, Option, Some, None, inl, inr, ◌⊎◌, refl, sym, ap, subst, append_assoc, append-nil, take-append-drop, take_all, take-add, le_of_eq, drop_of_length-le, true≢false, arith}
 use Rattle.std.specs.Io.KnownBytes.{Appends, Keeps}
 use Rattle.std.proofs.KnownBytes.{Appends-trans, Appends-nil}
-use Rattle.causes.specs.Faults.{Rose}
 use Rattle.session_poll.specs.Output.{is_empty}
 use Rattle.session_poll.specs.Polls.{Polls}
-use Rattle.session_poll.specs.Runs.{Did, IsRun, AllFit, end_of, bytes_read, events_of, replied, IsAt}
-use Rattle.session_poll.specs.Session.{state_of, held_of, waiting_of, is_over}
+use Rattle.session_poll.specs.Runs.{Did, bytes_read, replied, IsAt}
+use Rattle.session_poll.specs.Session.{held_of, waiting_of, is_over}
 use Rattle.session_poll.specs.Standing.{works, is_ended, stands, standing_of, Says}
 use Rattle.session_poll.specs.State.{State}
 use Rattle.session_poll.specs.declared.opening.Opening.{Opening}

@@ -1,5 +1,5 @@
 -- What a replay of a file over a catalogue has put out, from what the session's drive did.
-use Rattle.std.proofs.Common.{◌≡◌, ℕ, true, List, inl, inr, ◌⊎◌, refl}
+use Rattle.std.proofs.Common.{◌≡◌, ℕ, List, inl, inr, refl}
 use Rattle.causes.specs.Told.{IsContent}
 use Rattle.session_poll.specs.Servable.{IsServable}
 use Rattle.session_poll.specs.declared.opening.Opening.{Opening}
@@ -8,7 +8,7 @@ use Rattle.vra_types.specs.Check.{Passes}
 use Rattle.vdb_server.specs.Checks.{IsCheckedFile}
 use Rattle.vdb_server.specs.Exits.{IsOpeningExit, IsReadExit}
 use Rattle.vdb_server.specs.Replays.{IsReplayExit, Replays, ReplaysAll}
-use Rattle.vdb_server.specs.Replayed.{IsReplayed, IsReplayedWhole, IsReplayedExit}
+use Rattle.vdb_server.specs.Replayed.{IsReplayedExit}
 use Rattle.vdb_server.specs.Sinks.{Held}
 use Rattle.vdb_server.specs.Sources.{Files}
 use Rattle.vdb_server.specs.declared.exit.Exit.{Exit}

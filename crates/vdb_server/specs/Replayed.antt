@@ -2,8 +2,6 @@
 use Rattle.std.specs.Prelude.{◌≡◌, ℕ, ◌⊎◌, List}
 use Rattle.causes.specs.Told.{IsContent}
 use Rattle.session_poll.specs.declared.opening.Opening.{Opening}
-use Rattle.vschema.specs.declared.catalog.Catalog.{Catalog}
-use Rattle.vschema.specs.declared.catalog.OpeningRow.{OpeningRow}
 use Rattle.vdb_server.specs.Checks.{IsCheckedFile}
 use Rattle.vdb_server.specs.Replays.{Replays, ReplaysAll}
 use Rattle.vdb_server.specs.Sinks.{Held}

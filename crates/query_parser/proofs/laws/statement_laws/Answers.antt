@@ -1,4 +1,4 @@
-use Rattle.query_parser.proofs.TextLaws.{one_text, faultless, one_refusal}
+use Rattle.query_parser.proofs.TextLaws.{one_text, faultless}
 use Rattle.query_parser.proofs.ReprintLaws.{reads_printed}
 use Rattle.query_parser.proofs.laws.statement_laws.Goals as goal
 

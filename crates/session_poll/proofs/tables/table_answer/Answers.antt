@@ -1,4 +1,4 @@
-use Rattle.std.proofs.Common.{◌≡◌, ◌∙◌, sym, ap, subst}
+use Rattle.std.proofs.Common.{◌∙◌, sym, ap, subst}
 use Rattle.session_poll.specs.Scans.{scanned}
 use Rattle.session_poll.proofs.ScanLaws.{scan_answers, normal_is_answer}
 use Rattle.vtable.specs.Answers.{IsAnswerAt}

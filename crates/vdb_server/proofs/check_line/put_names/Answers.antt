@@ -1,4 +1,4 @@
-use Rattle.std.proofs.Common.{◌≡◌, ◌<◌, true, false, length, sym, ◌∙◌, arith}
+use Rattle.std.proofs.Common.{sym, ◌∙◌, arith}
 use Rattle.vdb_server.proofs.VariantText.{name_put, name_skipped}
 use Rattle.vdb_server.proofs.check_line.put_names.Goals as goal
 use Rattle.vdb_server.proofs.check_line.put_names.Goals.{then-holds+in_ok-put_name, else-holds}

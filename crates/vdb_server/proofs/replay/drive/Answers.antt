@@ -2,7 +2,7 @@ use Rattle.std.proofs.Common.{◌≡◌, rules, subst, le_trans}
 use Rattle.session_poll.specs.Polls.{has_moved}
 use Rattle.session_poll.specs.Standing.{Says}
 use Rattle.session_poll.specs.declared.polled.Polled.TheVariants as polled
-use Rattle.vdb_server.proofs.ReplayLaws.{polled_on, closed_all, all_replays, replays_so_far}
+use Rattle.vdb_server.proofs.ReplayLaws.{polled_on, closed_all, replays_so_far}
 use Rattle.vdb_server.proofs.replay.drive.Goals as goal
 
 pub returns-then-eq-clause-all : goal.returns-then-eq-clause-all

@@ -1,4 +1,4 @@
-use Rattle.std.proofs.Common.{rules, arith, take, drop}
+use Rattle.std.proofs.Common.{rules}
 use Rattle.vdb_server.proofs.ReplayLaws.{fed_on, ended_on}
 use Rattle.vdb_server.proofs.replay.feed_on.Goals as goal
 

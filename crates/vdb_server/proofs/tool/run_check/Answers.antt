@@ -1,5 +1,3 @@
-use Rattle.std.proofs.Common.{◌≡◌}
-use Rattle.vdb_server.specs.Checks.{IsTold, IsToldInPart}
 use Rattle.vdb_server.proofs.tool.run_check.Goals as goal
 
 pub returns-then-put_all-clause-ends : goal.returns-then-put_all-clause-ends
