@@ -1,8 +1,7 @@
 -- Partial assignments, and what becomes of a constraint under one.
 use Rattle.std.specs.Prelude.{◌≡◌, ℕ, ◌<◌, Bool, true, false, not, List, Option, Some, None}
-use Rattle.feature_expr.specs.declared.config.TheConstants.{FEATURE_LIMIT}
 use Rattle.feature_expr.specs.declared.expr.Expr.{Expr}
-use Rattle.feature_expr.specs.Config.{IsConfig, has_feature}
+use Rattle.feature_expr.specs.Config.{IsConfig, feature_limit, has_feature}
 use Rattle.feature_expr.specs.Satisfaction.{satisfies}
 use Rattle.feature_expr.specs.Expressions.{mentions}
 use Rattle.std.specs.List.{list_all, list_any}
@@ -20,7 +19,7 @@ pub record Extends (c : List ℕ) (assignment : Assignment) : Type 0 where
 
 -- an unassigned feature
 pub record IsUnassigned (assignment : Assignment) (feature : ℕ) : Type 0 where
-  pub below : feature < FEATURE_LIMIT
+  pub below : feature < feature_limit
   pub not_held : has_feature assignment.held feature ≡ false
   pub not_lacking : has_feature assignment.lacking feature ≡ false
 

@@ -2,6 +2,7 @@ pub mod BlankLaws
 pub mod ChainLaws
 pub mod ConfigBits
 pub mod ExprLaws
+pub mod FaultLaws
 pub mod FeatureLists
 pub mod KnownLaws
 pub mod NameLaws

@@ -6,8 +6,7 @@ use Rattle.std.specs.Str.{bytes_eq}
 use Rattle.std.proofs.lemmas.Bool.Decides.{nat_tests}
 use Rattle.std.proofs.lemmas.List.Folds.{list_any-append, list_any_at}
 use Rattle.std.proofs.lemmas.Slice.Eq.{bytes_eq-Decides}
-use Rattle.feature_expr.specs.Names.{is_name_of, is_word_of, same_word_as, is_reserved_word, among, refusal_from, refusal}
-use Rattle.feature_expr.specs.declared.features.TheConstants.{NAME_LIMIT, RESERVED}
+use Rattle.feature_expr.specs.Names.{is_name_of, is_word_of, same_word_as, reserved_words, is_reserved_word, name_limit, among, refusal_from, refusal}
 use Rattle.feature_expr.specs.declared.features.FeaturesRefused.{FeaturesRefused}
 use Rattle.feature_expr.specs.declared.features.FeaturesRefused.TheVariants as refused
 use Rattle.feature_expr.specs.declared.parse.Sign.TheVariants as sign
@@ -15,8 +14,8 @@ use Rattle.feature_expr.specs.ExprGrammar.{sign_of_word}
 use Rattle.feature_expr.proofs.StandLaws.{both_true}
 
 -- a word that is no reserved one isn't the one at this place among them
-pub reserved_false : (name : List ℕ) (place : ℕ) (b : Bool) → place < length RESERVED → same_word_as name (get_or RESERVED place (record { now = [] })).now ≡ b → is_reserved_word name ≡ false → b ≡ false
-reserved_false name place true within same free = cc (free, list_any_at (λ word. same_word_as name word.now) RESERVED place (record { now = [] }) within same)
+pub reserved_false : (name : List ℕ) (place : ℕ) (b : Bool) → place < length reserved_words → same_word_as name (get_or reserved_words place []) ≡ b → is_reserved_word name ≡ false → b ≡ false
+reserved_false name place true within same free = cc (free, list_any_at (λ word. same_word_as name word) reserved_words place [] within same)
 reserved_false name place false within same free = refl
 
 pub not_true : (b : Bool) → not b ≡ true → b ≡ false
@@ -25,8 +24,8 @@ not_true false h = refl
 
 pub named_word : (name : List ℕ) → is_name_of name ≡ true → (is_word_of name ≡ true) × (is_reserved_word name ≡ false)
 named_word name is =
-    let parts = both_true (nat_le (length name) NAME_LIMIT && is_word_of name) (not (is_reserved_word name)) is in
-    ((both_true (nat_le (length name) NAME_LIMIT) (is_word_of name) parts.0).1, not_true (is_reserved_word name) parts.1)
+    let parts = both_true (nat_le (length name) name_limit && is_word_of name) (not (is_reserved_word name)) is in
+    ((both_true (nat_le (length name) name_limit) (is_word_of name) parts.0).1, not_true (is_reserved_word name) parts.1)
 
 last_sign : (a b c d f g : Bool) → a ≡ false → b ≡ false → c ≡ false → d ≡ false → f ≡ false → g ≡ true → (if a then sign.Or else (if b then sign.And else (if c then sign.Not else (if d then sign.True else (if f then sign.False else (if g then sign.Feature else sign.Other)))))) ≡ sign.Feature
 last_sign a b c d f g ha hb hc hd hf hg = rw (ha, hb, hc, hd, hf, hg) refl

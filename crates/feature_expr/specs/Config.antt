@@ -2,7 +2,10 @@
 use Rattle.std.specs.Prelude.{ℕ, zero, suc, ◌+◌, ◌^◌, ◌<◌, ◌≤◌, ◌==◌, Bool, List, [], ◌∷◌, ◌++◌, if◌then◌else◌}
 use Rattle.std.specs.List.{list_any}
 use Rattle.std.specs.Int.{bit_at}
-use Rattle.feature_expr.specs.declared.config.TheConstants.{FEATURE_LIMIT}
+
+-- the greatest number of features
+abbrev pub feature_limit : ℕ
+feature_limit = 64
 
 -- whether a feature is true
 abbrev pub has_feature : List ℕ → ℕ → Bool
@@ -15,7 +18,7 @@ IsBetween low high (k ∷ ks) = (low ≤ k) × (k < high) × IsBetween (k + 1) h
 
 -- a configuration
 pub record IsConfig (c : List ℕ) : Type 0 where
-  pub between : IsBetween 0 FEATURE_LIMIT c
+  pub between : IsBetween 0 feature_limit c
 
 -- the ones among the lowest bits of a number, ascending
 unfoldable pub ones_below : ℕ → ℕ → List ℕ

@@ -1,5 +1,5 @@
 -- Texts that are expressions, and why others aren't.
-use Rattle.std.specs.Prelude.{Bool, false, ◌≡◌, ℕ, ◌+◌, ◌<◌, ◌≤◌, List, [], ◌∷◌, None, Result, Ok, Err}
+use Rattle.std.specs.Prelude.{Bool, false, ◌≡◌, ◌≢◌, ℕ, ◌+◌, ◌<◌, ◌≤◌, List, [], ◌∷◌, None, Result, Ok, Err}
 use Rattle.feature_expr.specs.Grammar.{Symbol, Terminal, Nonterminal, Matches}
 use Rattle.feature_expr.specs.Tokens.{AreTokens, place_at}
 use Rattle.feature_expr.specs.ExprGrammar.{Part, Mark, Own, Disjunction, forms, fits, sign_at, feature_at, IsFirst, Spells}
@@ -69,3 +69,8 @@ IsRefusedText names text most why = Refusal names text most why
 abbrev pub Gives : Expr → Result Expr ExprRefused → Type 0
 Gives expr (Ok found) = found ≡ expr
 Gives expr (Err why) = why ≡ refused.Memory
+
+-- the answer is this refusal, or memory ran out
+abbrev pub GivesFault : ExprRefused → Result Expr ExprRefused → Type 0
+GivesFault why (Ok found) = ⊥
+GivesFault why (Err found) = found ≢ refused.Memory → found ≡ why

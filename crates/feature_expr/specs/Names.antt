@@ -1,10 +1,9 @@
 -- Names, and lists of names that can be those of features.
-use Rattle.std.specs.Prelude.{ℕ, ◌+◌, ◌==◌, Bool, false, not, ◌&&◌, ◌||◌, if◌then◌else◌, List, [], ◌∷◌, ◌++◌, length, map, Option, Some, None, nat_lt, nat_le}
+use Rattle.std.specs.Prelude.{ℕ, ◌+◌, ◌==◌, Bool, false, not, ◌&&◌, ◌||◌, if◌then◌else◌, List, [], ◌∷◌, ◌++◌, length, map, codes, Option, Some, None, nat_lt, nat_le}
 use Rattle.std.specs.List.{list_any, list_all}
 use Rattle.std.specs.Str.{bytes_eq}
 use Rattle.std.specs.Char.{is_ascii_alphabetic, is_ascii_alphanumeric, to_ascii_lowercase}
-use Rattle.feature_expr.specs.declared.config.TheConstants.{FEATURE_LIMIT}
-use Rattle.feature_expr.specs.declared.features.TheConstants.{NAME_LIMIT, RESERVED}
+use Rattle.feature_expr.specs.Config.{feature_limit}
 use Rattle.feature_expr.specs.declared.features.FeaturesRefused.{FeaturesRefused}
 use Rattle.feature_expr.specs.declared.features.FeaturesRefused.TheVariants as refused
 
@@ -24,12 +23,20 @@ is_word_of (byte ∷ bytes) = starts_word byte && list_all continues_word bytes
 abbrev pub same_word_as : List ℕ → List ℕ → Bool
 same_word_as left right = bytes_eq (map to_ascii_lowercase left) (map to_ascii_lowercase right)
 
+-- the words that are never a name, in any case
+abbrev pub reserved_words : List (List ℕ)
+reserved_words = codes "alter" ∷ codes "and" ∷ codes "as" ∷ codes "begin" ∷ codes "choice" ∷ codes "commit" ∷ codes "create" ∷ codes "delete" ∷ codes "empty" ∷ codes "except" ∷ codes "false" ∷ codes "from" ∷ codes "insert" ∷ codes "into" ∷ codes "join" ∷ codes "none" ∷ codes "not" ∷ codes "on" ∷ codes "or" ∷ codes "rollback" ∷ codes "select" ∷ codes "set" ∷ codes "true" ∷ codes "union" ∷ codes "update" ∷ codes "values" ∷ codes "when" ∷ codes "where" ∷ []
+
 abbrev pub is_reserved_word : List ℕ → Bool
-is_reserved_word bytes = list_any (λ word. same_word_as bytes word.now) RESERVED
+is_reserved_word bytes = list_any (λ word. same_word_as bytes word) reserved_words
+
+-- the greatest length of a name, in bytes
+abbrev pub name_limit : ℕ
+name_limit = 63
 
 -- a word of 1 to 63 bytes that isn't reserved
 abbrev pub is_name_of : List ℕ → Bool
-is_name_of bytes = nat_le (length bytes) NAME_LIMIT && is_word_of bytes && not (is_reserved_word bytes)
+is_name_of bytes = nat_le (length bytes) name_limit && is_word_of bytes && not (is_reserved_word bytes)
 
 abbrev pub among : List ℕ → List (List ℕ) → Bool
 among name names = list_any (λ other. bytes_eq other name) names
@@ -42,4 +49,4 @@ refusal_from place before (name ∷ rest) =
 
 -- why the names aren't those of features, or None
 unfoldable pub refusal : List (List ℕ) → Option FeaturesRefused
-refusal names = if nat_lt FEATURE_LIMIT (length names) then Some (refused.TooMany (length names)) else refusal_from 0 [] names
+refusal names = if nat_lt feature_limit (length names) then Some (refused.TooMany (length names)) else refusal_from 0 [] names

@@ -4,7 +4,6 @@ use Rattle.std.specs.Str.{bytes_eq}
 use Rattle.std.specs.List.{prefix_len, slice_range}
 use Rattle.std.specs.Char.{is_ascii_digit}
 use Rattle.feature_expr.specs.Names.{starts_word, continues_word, same_word_as}
-use Rattle.feature_expr.specs.declared.token.TheConstants.{PARAMETER_LIMIT}
 use Rattle.feature_expr.specs.declared.token.TokenKind.{TokenKind}
 use Rattle.feature_expr.specs.declared.token.TokenKind.TheVariants as kind
 use Rattle.feature_expr.specs.declared.token.Token.{Token}
@@ -67,9 +66,13 @@ abbrev pub integer_of : Bool → List ℕ → Option ℤ
 integer_of true digits = if nat_le (number_of digits) (2 ^ 63) then Some (neg_ℤ (pos (number_of digits))) else None
 integer_of false digits = if nat_lt (number_of digits) (2 ^ 63) then Some (pos (number_of digits)) else None
 
+-- the greatest number of a parameter
+abbrev pub parameter_limit : ℕ
+parameter_limit = 1024
+
 -- the number of a parameter, or None where it is above the limit
 abbrev pub parameter_of : List ℕ → Option ℕ
-parameter_of digits = if nat_le (number_of digits) PARAMETER_LIMIT then Some (number_of digits) else None
+parameter_of digits = if nat_le (number_of digits) parameter_limit then Some (number_of digits) else None
 
 -- the token that begins at a place: its kind, and where it ends
 pub record Scanned : Type 0 where

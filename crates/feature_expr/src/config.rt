@@ -1,5 +1,5 @@
 ghost use Rattle.std.specs.Prelude.{◌≡◌, ℕ, List as Items, [], ◌<◌, ◌==◌, ◌||◌};
-ghost use Rattle.feature_expr.specs.Config.{IsConfig, has_feature};
+ghost use Rattle.feature_expr.specs.Config.{IsConfig, feature_limit, has_feature};
 
 use std::marker::Model;
 
@@ -41,7 +41,7 @@ impl Config {
 
     /// The same, and the feature holds.
     pub fn with(self, feature: u8) -> Config
-        requires { feature < FEATURE_LIMIT }
+        requires { feature < feature_limit }
         ensures holds { (i : ℕ) → has_feature result i ≡ (i == feature || has_feature self i) }
     {
         Config {
@@ -50,7 +50,7 @@ impl Config {
     }
 
     pub fn has(&self, feature: u8) -> bool
-        requires { feature < FEATURE_LIMIT }
+        requires { feature < feature_limit }
         ensures { result ≡ has_feature self.now feature }
     {
         self.holds(feature)

@@ -1,10 +1,12 @@
-ghost use Rattle.std.specs.Prelude.{◌≡◌, ℕ, true, false, ◌<◌, ◌≤◌, ◌+◌, length, slice_get, IfOk, IfErr, IsTrue};
+ghost use Rattle.std.specs.Prelude.{◌≡◌, ◌≢◌, ℕ, true, false, ◌<◌, ◌≤◌, ◌+◌, length, slice_get, IfOk, IfErr, IsTrue};
 ghost use Rattle.std.specs.Option.{option_copied};
 ghost use Rattle.feature_expr.specs.Tokens.{bytes_of, is_word_at, is_mark_at, place_at, AreTokens};
 ghost use Rattle.feature_expr.specs.ExprGrammar.{Disjunction, Conjunction, Negation, sign_of_kind, sign_of_word, sign_of_mark, sign_at, feature_at, IsToken, IsRead, IsRefused, AreKnown, IsFirst, Spells};
-ghost use Rattle.feature_expr.specs.ExprTexts.{IsViable, IsFault, IsText, IsRefusedText, Gives, placed_at};
+ghost use Rattle.feature_expr.specs.ExprTexts.{IsViable, IsFault, IsText, IsRefusedText, Gives, GivesFault, placed_at};
 ghost use Rattle.feature_expr.specs.Printing.{HasNames, text_nesting, text_of};
 ghost use Rattle.feature_expr.specs.declared.expr.Expr.{Expr};
+ghost use Rattle.feature_expr.specs.declared.parse.ExprRefused.{ExprRefused as Why};
+ghost use Rattle.feature_expr.specs.declared.parse.ExprRefused.TheVariants as refused;
 ghost use Rattle.feature_expr.specs.declared.parse.Fault.TheVariants as fault;
 ghost use Rattle.feature_expr.specs.declared.parse.Sign.TheVariants as sign;
 
@@ -71,6 +73,8 @@ pub fn parse_expr(
     ensures ok { IfOk result (λ expr. IsText features.now text.now max_nesting expr) }
     ensures err { IfErr result (λ why. IsRefusedText features.now text.now max_nesting why) }
     ensures read { (expr : Expr) → IsText features.now text.now max_nesting expr → Gives expr result }
+    ensures refused { (why : Why) → IsRefusedText features.now text.now max_nesting why → why ≢ refused.Memory → GivesFault why result }
+    ensures known { IfOk result (HasNames features.now) }
     ensures printed { (expr : Expr) → HasNames features.now expr → text_nesting expr ≤ max_nesting → text.now ≡ text_of features.now expr → Gives expr result }
 {
     // The count shows that the names are those of features, so that each is read as its own feature.

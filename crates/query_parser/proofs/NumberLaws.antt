@@ -8,8 +8,7 @@ use Rattle.std.proofs.lemmas.Fmt.{decimal_is_IsNumeral, first_decimal}
 use Rattle.std.proofs.lemmas.Str.{digit_value_digit}
 use Rattle.std.proofs.lemmas.Str.Parse.{digit_from_value}
 use Rattle.feature_expr.specs.Names.{continues_word, starts_word}
-use Rattle.feature_expr.specs.Tokens.{is_white, run_end, blank_end, number_of, integer_of, parameter_of, scanned, integer_at, parameter_at, scanned_at}
-use Rattle.feature_expr.specs.declared.token.TheConstants.{PARAMETER_LIMIT}
+use Rattle.feature_expr.specs.Tokens.{is_white, run_end, blank_end, number_of, integer_of, parameter_limit, parameter_of, scanned, integer_at, parameter_at, scanned_at}
 use Rattle.feature_expr.specs.declared.token.TokenKind.TheVariants as kind
 use Rattle.feature_expr.specs.declared.token.Token.{Token}
 use Rattle.feature_expr.proofs.BlankLaws.{blank_stop}
@@ -62,9 +61,9 @@ negative_number n small =
     let below : nat_le (suc n) (2 ^ 63) ≡ true = grind (arith, nat_tests) in
     rw (number_decimal (suc n) (omega arith), below) refl
 
-parameter_number : (n : ℕ) → n ≤ PARAMETER_LIMIT → parameter_of (decimal n) ≡ Some n
+parameter_number : (n : ℕ) → n ≤ parameter_limit → parameter_of (decimal n) ≡ Some n
 parameter_number n small =
-    let below : nat_le n PARAMETER_LIMIT ≡ true = grind (arith, nat_tests) in
+    let below : nat_le n parameter_limit ≡ true = grind (arith, nat_tests) in
     rw (number_decimal n (omega arith), below) refl
 
 digits_end : (text : List ℕ) (at : ℕ) (ds post : List ℕ) → AllDigits 10 ds → EndsWord post → drop at text ≡ ds ++ post → run_end is_ascii_digit text at ≡ at + length ds
@@ -141,7 +140,7 @@ module _ (text : List ℕ) (tokens : List Token) where
       let is = decimal_is_IsNumeral (suc n) (omega arith) in
       rw (negative_number n small) at (negative_digits_here k (decimal (suc n)) post is.0.0 is.0.1 ends h)
 
-  pub parameter_here : (k n : ℕ) (post : List ℕ) → 0 < n → n ≤ PARAMETER_LIMIT → EndsWord post → Here text tokens k (36 ∷ (decimal n ++ post)) → TokenIs text tokens k (kind.Param (Some n)) (36 ∷ decimal n) × Here text tokens (k + 1) post
+  pub parameter_here : (k n : ℕ) (post : List ℕ) → 0 < n → n ≤ parameter_limit → EndsWord post → Here text tokens k (36 ∷ (decimal n ++ post)) → TokenIs text tokens k (kind.Param (Some n)) (36 ∷ decimal n) × Here text tokens (k + 1) post
   parameter_here k n post some small ends h =
       let is = decimal_is_IsNumeral n (omega arith) in
       rw (parameter_number n small) at (parameter_digits_here k (decimal n) post is.0.0 (first_decimal n some (omega arith)) is.0.1 ends h)

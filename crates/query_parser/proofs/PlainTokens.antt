@@ -7,8 +7,7 @@ use Rattle.std.specs.Str.{bytes_eq}
 use Rattle.std.proofs.lemmas.Bool.Decides.{nat_tests}
 use Rattle.std.proofs.lemmas.List.{length-map}
 use Rattle.feature_expr.specs.Names.{starts_word, continues_word, is_word_of, same_word_as, is_reserved_word, is_name_of}
-use Rattle.feature_expr.specs.Tokens.{closing_from, closing_at, unquoted, number_of, integer_of, parameter_of, run_end, Scanned, quoted_at, sign_length, sign_at, scanned_at, blank_end, token_at, IfBad, StandAt, AreTokens, bytes_of}
-use Rattle.feature_expr.specs.declared.token.TheConstants.{PARAMETER_LIMIT}
+use Rattle.feature_expr.specs.Tokens.{closing_from, closing_at, unquoted, number_of, integer_of, parameter_limit, parameter_of, run_end, Scanned, quoted_at, sign_length, sign_at, scanned_at, blank_end, token_at, IfBad, StandAt, AreTokens, bytes_of}
 use Rattle.feature_expr.specs.declared.token.Token.{Token}
 use Rattle.feature_expr.specs.declared.token.TokenKind.{TokenKind}
 use Rattle.feature_expr.specs.declared.token.TokenKind.TheVariants as kind
@@ -142,7 +141,7 @@ IntegerRange (Some (negsuc n)) = n < 2 ^ 63
 
 abbrev ParameterRange : Option ℕ → Type 0
 ParameterRange None = Unit {0}
-ParameterRange (Some n) = (0 < n) × (n ≤ PARAMETER_LIMIT)
+ParameterRange (Some n) = (0 < n) × (n ≤ parameter_limit)
 
 abbrev KindRange : TokenKind → Type 0
 KindRange kind.Word = Unit {0}
@@ -182,7 +181,7 @@ first_dropped [] (suc at) = refl
 first_dropped (byte ∷ text) zero = refl
 first_dropped (byte ∷ text) (suc at) = first_dropped text at
 
-limited : (n : ℕ) (b : Bool) → nat_le n PARAMETER_LIMIT ≡ b → 0 < n → ParameterRange (if b then Some n else None)
+limited : (n : ℕ) (b : Bool) → nat_le n parameter_limit ≡ b → 0 < n → ParameterRange (if b then Some n else None)
 limited n true is some = (some, grind (arith, nat_tests))
 limited n false is some = tt
 
@@ -191,7 +190,7 @@ parameter_range text at digit other =
     let rest = drop at text in
     let size : (at + prefix_len is_ascii_digit rest) - at ≡ prefix_len is_ascii_digit rest = omega arith in
     let some : 0 < number_of (take (prefix_len is_ascii_digit rest) rest) = digits_some rest (rw (first_dropped text at) digit) (rw (first_dropped text at) other) in
-    limited (number_of (slice_range text at (run_end is_ascii_digit text at))) (nat_le (number_of (slice_range text at (run_end is_ascii_digit text at))) PARAMETER_LIMIT) refl (rw size some)
+    limited (number_of (slice_range text at (run_end is_ascii_digit text at))) (nat_le (number_of (slice_range text at (run_end is_ascii_digit text at))) parameter_limit) refl (rw size some)
 
 -- no zero byte stands before the closing quote
 some_byte : (x : ℕ) (bytes : List ℕ) → (x == 0) ≡ false → IsQuotable bytes → IsQuotable (x ∷ bytes)

@@ -6,7 +6,7 @@ use Rattle.feature_expr.specs.Names.{is_name_of}
 use Rattle.feature_expr.specs.Printing.{HasNames, text_nesting}
 use Rattle.feature_expr.specs.declared.column_name.ColName.{ColName}
 use Rattle.feature_expr.specs.declared.expr.Expr.{Expr}
-use Rattle.feature_expr.specs.declared.token.TheConstants.{PARAMETER_LIMIT}
+use Rattle.feature_expr.specs.Tokens.{parameter_limit}
 use Rattle.feature_expr.specs.declared.value.Value.TheVariants as value
 use Rattle.vra_syntax.specs.declared.cond.Cond.{Cond}
 use Rattle.vra_syntax.specs.declared.cond.Cond as cond
@@ -58,7 +58,7 @@ pub data PlainValue (with_params : Bool) : Operand → Type 0 where
   plain_negative : (n : ℕ) → n < 2 ^ 63 → PlainValue with_params (operand.Literal (value.Int (negsuc n)))
   plain_text : (bytes : List ℕ) → IsQuotable bytes → PlainValue with_params (operand.Literal (value.Text bytes))
   plain_truth : (truth : Bool) → PlainValue with_params (operand.Literal (value.Bool truth))
-  plain_param : (number : ℕ) → with_params ≡ true → 0 < number → number ≤ PARAMETER_LIMIT → PlainValue with_params (operand.Param number)
+  plain_param : (number : ℕ) → with_params ≡ true → 0 < number → number ≤ parameter_limit → PlainValue with_params (operand.Param number)
 
 pub data PlainOperand (with_params : Bool) : Operand → Type 0 where
   plain_column : (column : ColName) → PlainColumn column → PlainOperand with_params (operand.Column column)

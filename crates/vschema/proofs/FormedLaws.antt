@@ -10,14 +10,13 @@ use Rattle.std.proofs.lemmas.List.Folds.{list_all-append, list_any-append}
 use Rattle.std.proofs.lemmas.List.Quantifiers.{position-Some}
 use Rattle.std.proofs.lemmas.Slice.Eq.{bytes_eq-Decides}
 use Rattle.std.proofs.lemmas.Str.Ascii.{lowercase-lowercase, lowercase_is}
-use Rattle.feature_expr.specs.Names.{starts_word, continues_word, is_word_of, is_reserved_word, is_name_of, among}
+use Rattle.feature_expr.specs.Names.{starts_word, continues_word, is_word_of, reserved_words, is_reserved_word, is_name_of, among}
 use Rattle.feature_expr.specs.Value.{kind_of}
 use Rattle.feature_expr.specs.Tokens.{bytes_of}
 use Rattle.feature_expr.specs.ExprGrammar.{Part, Disjunction, Conjunction, Negation, feature_of, Spells, one_conjunction, disjunction, one_negation, conjunction, negation, truth, falsehood, feature, brackets}
 use Rattle.feature_expr.specs.declared.expr.Expr.{Expr, fold-roll-Expr}
 use Rattle.feature_expr.specs.declared.expr.Expr as e
 use Rattle.feature_expr.specs.declared.expr.Expr.TheOpen.{Expr-F}
-use Rattle.feature_expr.specs.declared.features.TheConstants.{RESERVED}
 use Rattle.feature_expr.specs.declared.token.Token.{Token}
 use Rattle.feature_expr.specs.declared.value.Value.{Value}
 use Rattle.vschema.specs.Formed.{below_step, features_below, distinct, table_names, column_names, has_names, column_features_below, table_features_below, row_features_below, has_distinct_columns, CellsFit, FitsTable, RowFits, IsFormed}
@@ -150,7 +149,7 @@ twice_lower [] = refl
 twice_lower (byte ∷ bytes) = rw (lowercase-lowercase byte, twice_lower bytes) refl
 
 reserved_lower : (bytes : List ℕ) → is_reserved_word (map to_ascii_lowercase bytes) ≡ is_reserved_word bytes
-reserved_lower bytes = ap (λ z. list_any (λ word. bytes_eq z (map to_ascii_lowercase word.now)) RESERVED) (twice_lower bytes)
+reserved_lower bytes = ap (λ z. list_any (λ word. bytes_eq z (map to_ascii_lowercase word)) reserved_words) (twice_lower bytes)
 
 name_lower : (bytes : List ℕ) → is_name_of (map to_ascii_lowercase bytes) ≡ is_name_of bytes
 name_lower bytes = rw (length-map bytes to_ascii_lowercase, word_lower bytes, reserved_lower bytes) refl

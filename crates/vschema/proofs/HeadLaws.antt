@@ -3,7 +3,7 @@ use Rattle.std.proofs.Common.{Bool, true, false, ◌≡◌, ◌≤◌, ℕ, ◌+
 use Rattle.std.proofs.lemmas.Bool.Decides.{nat_tests}
 use Rattle.std.proofs.lemmas.List.{append-nil, length-append}
 use Rattle.feature_expr.specs.Names.{is_name_of, among, refusal, refusal_from}
-use Rattle.feature_expr.specs.declared.config.TheConstants.{FEATURE_LIMIT}
+use Rattle.feature_expr.specs.Config.{feature_limit}
 use Rattle.feature_expr.specs.declared.features.FeaturesRefused.{FeaturesRefused}
 use Rattle.feature_expr.specs.declared.features.FeaturesRefused.TheVariants as features_refused
 use Rattle.feature_expr.specs.declared.token.Token.{Token}
@@ -58,9 +58,9 @@ module _ (text : List ℕ) (tokens : List Token) where
   not_below : (n limit : ℕ) → n ≤ limit → nat_lt limit n ≡ false
   not_below n limit h = grind (arith, nat_tests)
 
-  within_of : (names : List (List ℕ)) → length names ≤ FEATURE_LIMIT → refusal_from 0 [] names ≡ None → refusal names ≡ None
+  within_of : (names : List (List ℕ)) → length names ≤ feature_limit → refusal_from 0 [] names ≡ None → refusal names ≡ None
   unfolding refusal
-  within_of names within none = rw (not_below (length names) FEATURE_LIMIT within) none
+  within_of names within none = rw (not_below (length names) feature_limit within) none
 
   before_refusal : (names : List (List ℕ)) (at : ℕ) → FeaturesBefore text tokens names at → refusal_from 0 [] names ≡ None
   before_refusal all to no_feature_yet = refl

@@ -3,7 +3,7 @@
 use Rattle.std.proofs.Common.{◌≡◌, ◌≢◌, ℕ, ◌+◌, ◌<◌, ◌≤◌, Bool, true, false, nat_lt, List, [], length, set, Option, Some, Err, sym, refl, arith}
 use Rattle.std.proofs.lemmas.Bool.Decides.{nat_tests}
 use Rattle.feature_expr.specs.Value.{kind_of}
-use Rattle.feature_expr.specs.declared.config.TheConstants.{FEATURE_LIMIT}
+use Rattle.feature_expr.specs.Config.{feature_limit}
 use Rattle.feature_expr.specs.declared.expr.Expr.{Expr}
 use Rattle.feature_expr.specs.declared.token.Token.{Token}
 use Rattle.feature_expr.specs.declared.value.Kind.{Kind}
@@ -73,25 +73,25 @@ module _ (text : List ℕ) (tokens : List Token) where
   reads_features : (names : List (List ℕ)) (at : ℕ) → FeaturesBefore text tokens names at → (k : List (List ℕ) → ℕ → Program) (a : Answer) → R (Ask (MoreFeatures names at) k) a → R (Ask (MoreFeatures [] 1) k) a
   reads_features all to no_feature_yet k a r = r
   reads_features all to (another_feature before name at ds new comma) k a r =
-      reads_features before at ds k a (asks (MoreFeatures before at) k a (rw (new.named, new.fresh, below (length before) FEATURE_LIMIT new.within, comma) r))
+      reads_features before at ds k a (asks (MoreFeatures before at) k a (rw (new.named, new.fresh, below (length before) feature_limit new.within, comma) r))
 
   pub reads_head : (names : List (List ℕ)) (end : ℕ) → IsHead text tokens names end → (k : List (List ℕ) → ℕ → Program) (a : Answer) → R (k names end) a → R (Ask AHead k) a
   reads_head all end (no_features word semicolon) k a r = asks AHead k a (rw (word, semicolon) r)
   reads_head all end (some_features names name at word ds new semicolon) k a r =
-      asks AHead k a (rw (word, first_feature names name at ds new) (reads_features names at ds k a (asks (MoreFeatures names at) k a (rw (new.named, new.fresh, below (length names) FEATURE_LIMIT new.within, none_more (at + 1) semicolon, semicolon) r))))
+      asks AHead k a (rw (word, first_feature names name at ds new) (reads_features names at ds k a (asks (MoreFeatures names at) k a (rw (new.named, new.fresh, below (length names) feature_limit new.within, none_more (at + 1) semicolon, semicolon) r))))
 
   fails_feature : (names : List (List ℕ)) (at : ℕ) (why : CatalogFault) → FeatureFault text tokens names at why → why ≢ fault.Memory → (k : List (List ℕ) → ℕ → Program) → R (Ask (MoreFeatures names at) k) (Err why)
   fails_feature names at why feature_memory other k = absurd (other refl)
   fails_feature names at why (no_feature_name none) other k = asks (MoreFeatures names at) k (Err why) (rw none (ends (Err why)))
   fails_feature names at why (feature_again name named again) other k = asks (MoreFeatures names at) k (Err why) (rw (named, again) (ends (Err why)))
-  fails_feature names at why (one_feature_more name named fresh full) other k = asks (MoreFeatures names at) k (Err why) (rw (named, fresh, above (length names) FEATURE_LIMIT full) (ends (Err why)))
+  fails_feature names at why (one_feature_more name named fresh full) other k = asks (MoreFeatures names at) k (Err why) (rw (named, fresh, above (length names) feature_limit full) (ends (Err why)))
 
   pub fails_head : (why : CatalogFault) → HeadFault text tokens why → why ≢ fault.Memory → (k : List (List ℕ) → ℕ → Program) → R (Ask AHead k) (Err why)
   fails_head why head_memory other k = absurd (other refl)
   fails_head why (no_features_word missing) other k = asks AHead k (Err why) (rw missing (ends (Err why)))
   fails_head why (at_feature names at w word some ds f) other k = asks AHead k (Err why) (rw (word, some) (reads_features names at ds k (Err why) (fails_feature names at why f other k)))
   fails_head why (features_unended names name at word ds new comma semicolon) other k =
-      asks AHead k (Err why) (rw (word, first_feature names name at ds new) (reads_features names at ds k (Err why) (asks (MoreFeatures names at) k (Err why) (rw (new.named, new.fresh, below (length names) FEATURE_LIMIT new.within, comma, semicolon) (ends (Err why))))))
+      asks AHead k (Err why) (rw (word, first_feature names name at ds new) (reads_features names at ds k (Err why) (asks (MoreFeatures names at) k (Err why) (rw (new.named, new.fresh, below (length names) feature_limit new.within, comma, semicolon) (ends (Err why))))))
 
   pub reads_model : (names : List (List ℕ)) (at : ℕ) (model : Expr) (end : ℕ) → IsModel names text tokens at model end → (k : Expr → ℕ → Program) (a : Answer) → R (k model end) a → R (Ask (AModel names at) k) a
   reads_model names at model end (no_model missing) k a r = asks (AModel names at) k a (rw missing r)

@@ -3,7 +3,7 @@
 use Rattle.std.proofs.Common.{◌≡◌, ◌≢◌, ℕ, ◌+◌, ◌==◌, Bool, true, false, nat_lt, is_some, List, [], ◌∷◌, ◌++◌, length, set, slice_get, Option, Some, None, Result, Err, refl}
 use Rattle.feature_expr.specs.Names.{among}
 use Rattle.feature_expr.specs.Value.{kind_of}
-use Rattle.feature_expr.specs.declared.config.TheConstants.{FEATURE_LIMIT}
+use Rattle.feature_expr.specs.Config.{feature_limit}
 use Rattle.feature_expr.specs.declared.expr.Expr.{Expr}
 use Rattle.feature_expr.specs.declared.expr.Expr as e
 use Rattle.feature_expr.specs.declared.token.Token.{Token}
@@ -105,7 +105,7 @@ module _ (text : List ℕ) (tokens : List Token) where
   abbrev pub body : (goal : Goal) → (Spelled goal → ℕ → Program) → Program
   body AHead k = need (is 0 sign.Features) 0 (choose (is 1 sign.Semicolon) (k [] 2) (Ask (MoreFeatures [] 1) k))
   body (MoreFeatures before at) k =
-      another (name_at text tokens at) (λ name. among name before) (nat_lt (length before) FEATURE_LIMIT) at which.Features (λ name.
+      another (name_at text tokens at) (λ name. among name before) (nat_lt (length before) feature_limit) at which.Features (λ name.
       choose (is (at + 1) sign.Comma) (Ask (MoreFeatures (before ++ name ∷ []) (at + 2)) k) (need (is (at + 1) sign.Semicolon) (at + 1) (k (before ++ name ∷ []) (at + 2))))
   body (AModel names at) k = choose (is at sign.Model) (AskExpression names 0 (at + 1) (up_to_semicolon k)) (k e.True at)
   body (AWhen names n at) k = choose (is at sign.When) (AskExpression names n (at + 1) k) (k e.True at)

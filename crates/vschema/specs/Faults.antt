@@ -4,7 +4,7 @@ use Rattle.std.specs.Prelude.{true, false, ◌≡◌, ◌≢◌, ℕ, ◌+◌, �
 use Rattle.feature_expr.specs.Names.{among}
 use Rattle.feature_expr.specs.Value.{kind_of}
 use Rattle.feature_expr.specs.ExprGrammar.{Disjunction, IsRefused, IsFirst}
-use Rattle.feature_expr.specs.declared.config.TheConstants.{FEATURE_LIMIT}
+use Rattle.feature_expr.specs.Config.{feature_limit}
 use Rattle.feature_expr.specs.declared.expr.Expr.{Expr}
 use Rattle.feature_expr.specs.declared.parse.Fault.{Fault}
 use Rattle.feature_expr.specs.declared.parse.Fault.TheVariants as expr_fault
@@ -48,7 +48,7 @@ pub data FeatureFault (text : List ℕ) (tokens : List Token) (names : List (Lis
   feature_memory : FeatureFault text tokens names at fault.Memory
   no_feature_name : name_at text tokens at ≡ None → FeatureFault text tokens names at (fault.Syntax at)
   feature_again : (name : List ℕ) → name_at text tokens at ≡ Some name → among name names ≡ true → FeatureFault text tokens names at (fault.Duplicate at)
-  one_feature_more : (name : List ℕ) → name_at text tokens at ≡ Some name → among name names ≡ false → FEATURE_LIMIT ≤ length names → FeatureFault text tokens names at (fault.Limit at which.Features)
+  one_feature_more : (name : List ℕ) → name_at text tokens at ≡ Some name → among name names ≡ false → feature_limit ≤ length names → FeatureFault text tokens names at (fault.Limit at which.Features)
 
 -- in the list of features
 pub data HeadFault (text : List ℕ) (tokens : List Token) : CatalogFault → Type 0 where

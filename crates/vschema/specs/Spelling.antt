@@ -5,7 +5,7 @@ use Rattle.std.specs.Str.{bytes_eq}
 use Rattle.feature_expr.specs.Names.{among}
 use Rattle.feature_expr.specs.Value.{kind_of}
 use Rattle.feature_expr.specs.ExprGrammar.{Disjunction, IsRead, Spells}
-use Rattle.feature_expr.specs.declared.config.TheConstants.{FEATURE_LIMIT}
+use Rattle.feature_expr.specs.Config.{feature_limit}
 use Rattle.feature_expr.specs.declared.expr.Expr.{Expr}
 use Rattle.feature_expr.specs.declared.expr.Expr as e
 use Rattle.feature_expr.specs.declared.token.Token.{Token}
@@ -33,7 +33,7 @@ table_place name tables = position (λ (table : Table). bytes_eq table.name name
 pub record NewFeature (text : List ℕ) (tokens : List Token) (names : List (List ℕ)) (at : ℕ) (name : List ℕ) : Type 0 where
   pub named : name_at text tokens at ≡ Some name
   pub fresh : among name names ≡ false
-  pub within : length names < FEATURE_LIMIT
+  pub within : length names < feature_limit
 
 -- these features stand before a place at which another one has to stand: the first one behind the word `features`, the
 -- others behind commas

@@ -2,9 +2,8 @@
 use Rattle.std.proofs.Common.{◌≡◌, ℕ, zero, suc, ◌+◌, ◌<◌, ◌≤◌, Bool, true, false, not, ◌&&◌, ◌||◌, List, [], ◌∷◌, refl, sym, ◌∙◌, ap, subst, arith, rules, ◌⊎◌, inl, inr, Option, Some, None}
 use Rattle.std.specs.Prelude.{is_some, IfSome, IfNone}
 use Rattle.std.proofs.Math.Nat.{eq-or-lt_of_le}
-use Rattle.feature_expr.specs.declared.config.TheConstants.{FEATURE_LIMIT}
 use Rattle.feature_expr.specs.declared.expr.Expr.{Expr}
-use Rattle.feature_expr.specs.Config.{IsBetween}
+use Rattle.feature_expr.specs.Config.{IsBetween, feature_limit}
 use Rattle.feature_expr.specs.Satisfaction.{satisfies}
 use Rattle.condition_sat.specs.Admitted.{IsAdmitted, SomeAdmitted}
 use Rattle.vtable.specs.Possible.{some_config, some_admitted, can_hold, can_meet, always_holds}
@@ -76,13 +75,13 @@ config_of (suc count) low passes (k ∷ ks) h p =
 pub some_admitted_of : (model : Expr) (passes : List ℕ → Bool) (c : List ℕ) → IsAdmitted model c → passes c ≡ true → some_admitted model passes ≡ true
 unfolding some_admitted
 some_admitted_of model passes c admitted p =
-    config_of FEATURE_LIMIT 0 (λ d. satisfies d model && passes d) c admitted.config.between (both _ _ admitted.model_holds p)
+    config_of feature_limit 0 (λ d. satisfies d model && passes d) c admitted.config.between (both _ _ admitted.model_holds p)
 
 -- where there is one, it is an admitted configuration that passes
 pub admitted_of : (model : Expr) (passes : List ℕ → Bool) → some_admitted model passes ≡ true → SomeAdmitted model (λ c. passes c ≡ true)
 unfolding some_admitted
 admitted_of model passes h =
-    let found = passing_of FEATURE_LIMIT 0 (λ d. satisfies d model && passes d) h in
+    let found = passing_of feature_limit 0 (λ d. satisfies d model && passes d) h in
     record {
       config = found.config;
       admitted = record { config = record { between = found.between }; model_holds = and_first _ _ found.passing };

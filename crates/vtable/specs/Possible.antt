@@ -1,7 +1,7 @@
 -- Which conditions can hold, and which always hold, under a feature model. The definitions go through all
 -- configurations, and nothing computes them: `can_hold_means` of the crate ties them to the admitted configurations.
 use Rattle.std.specs.Prelude.{ℕ, zero, suc, ◌+◌, Bool, true, false, not, ◌&&◌, ◌||◌, List, [], ◌∷◌}
-use Rattle.feature_expr.specs.declared.config.TheConstants.{FEATURE_LIMIT}
+use Rattle.feature_expr.specs.Config.{feature_limit}
 use Rattle.feature_expr.specs.declared.expr.Expr.{Expr, out-Expr}
 use Rattle.feature_expr.specs.declared.expr.Expr.TheOpen.{Expr-F}
 use Rattle.feature_expr.specs.Satisfaction.{satisfies}
@@ -13,7 +13,7 @@ some_config (suc count) low passes = some_config count (low + 1) passes || some_
 
 -- whether an admitted configuration passes
 unfoldable pub some_admitted : Expr → (List ℕ → Bool) → Bool
-some_admitted model passes = some_config FEATURE_LIMIT 0 (λ c. satisfies c model && passes c)
+some_admitted model passes = some_config feature_limit 0 (λ c. satisfies c model && passes c)
 
 -- whether the condition holds in an admitted configuration
 abbrev pub can_hold : Expr → Expr → Bool

@@ -1,3 +1,4 @@
+use Rattle.feature_expr.proofs.FaultLaws.{one_refusal}
 use Rattle.feature_expr.proofs.NestingLaws.{nests_within}
 use Rattle.feature_expr.proofs.OccurringLaws.{names_spelled}
 use Rattle.feature_expr.specs.ExprGrammar.{Disjunction}
@@ -23,3 +24,6 @@ returns-clause-printed c = λ names most expr none named nests. let t = has_toke
 
 pub returns-clause-again : goal.returns-clause-again
 returns-clause-again c = λ names text most expr none t. returns-clause-printed c names most expr none (names_spelled names text t.tokens (Disjunction 0) 0 expr t.end t.spelled) (nests_within names text t.tokens most expr t.end t.spelled t.ends t.viable)
+
+pub returns-clause-one_fault : goal.returns-clause-one_fault
+returns-clause-one_fault c = one_refusal
