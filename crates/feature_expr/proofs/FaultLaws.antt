@@ -1,5 +1,5 @@
 -- A text that is no expression has one first fault.
-use Rattle.std.proofs.Common.{◌≡◌, ◌≢◌, ℕ, ◌+◌, ◌<◌, ◌≤◌, Bool, true, false, nat_lt, List, None, Ok, Err, ap, refl, sym, arith, ◌∙◌}
+use Rattle.std.proofs.Common.{◌≡◌, ◌≢◌, ℕ, ◌+◌, ◌<◌, ◌≤◌, Bool, true, false, nat_lt, List, Ok, Err, ap, refl, sym, arith, ◌∙◌}
 use Rattle.std.proofs.lemmas.Bool.Decides.{nat_tests}
 use Rattle.feature_expr.specs.declared.expr.Expr.{Expr}
 use Rattle.feature_expr.specs.declared.parse.ExprRefused.{ExprRefused}
@@ -8,7 +8,7 @@ use Rattle.feature_expr.specs.declared.parse.Fault.{Fault}
 use Rattle.feature_expr.specs.declared.parse.Fault.TheVariants as fault
 use Rattle.feature_expr.specs.declared.token.Token.{Token}
 use Rattle.feature_expr.specs.ExprGrammar.{AreKnown, IsFirst}
-use Rattle.feature_expr.specs.ExprTexts.{IsViable, IsFirstFault, IsFault, IsText, Refusal, IsRefusedText, placed_at, GivesFault}
+use Rattle.feature_expr.specs.ExprTexts.{IsFirstFault, IsFault, IsText, Refusal, IsRefusedText, placed_at, GivesFault}
 use Rattle.feature_expr.proofs.OneLaws.{one_tokens}
 use Rattle.feature_expr.proofs.WholeLaws.{refused_for_memory}
 

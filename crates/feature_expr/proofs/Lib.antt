@@ -19,5 +19,6 @@ pub mod ReadingLaws
 pub mod StandLaws
 pub mod TextLaws
 pub mod TokenLaws
+pub mod VariantLaws
 pub mod WholeLaws
 pub mod WrittenLaws

@@ -10,6 +10,9 @@ pub mod GrammarLaws
 pub mod Names
 pub mod Printing
 pub mod Rests
+pub mod Same
+pub mod SameLaws
 pub mod Satisfaction
 pub mod Tokens
 pub mod Value
+pub mod Variants

@@ -13,9 +13,11 @@ mod memory;
 mod occurring;
 mod parse;
 mod print;
+mod same;
 mod text;
 mod token;
 mod value;
+mod variant;
 
 pub use column_name::ColName;
 pub use config::{Config, FEATURE_LIMIT};
@@ -30,9 +32,11 @@ pub use parse::{
     token_place,
 };
 pub use print::print_expr;
+pub use same::{fingerprint, is_same_expr, mixed};
 pub use text::{Name, Text};
 pub use token::{Token, TokenKind, end_line, end_place, tokens};
 pub use value::{Kind, Value};
+pub use variant::push_variant;
 
 #[cfg(test)]
 mod tests;

@@ -1,7 +1,7 @@
 use crate::column_name::ColName;
 use crate::config::Config;
 use crate::expr::{Expr, and, copy_expr, eval, not, or, weight};
-use crate::features::{Features, FeaturesRefused};
+use crate::features::{Features, FeaturesRefused, is_name};
 use crate::list::List;
 use crate::memory::TryCopy;
 use crate::parse::{ExprRefused, parse_expr};
@@ -216,6 +216,31 @@ fn has_tokens(rt: &impl Abort, alloc: Global, text: &str, wanted: &[Wanted]) -> 
             token.bytes(text.as_bytes()).len(),
             end.saturating_sub(start)
         );
+    }
+    Ok(())
+}
+
+const RESERVED_WORDS: [&str; 4] = [
+    "alter and as begin choice commit create delete empty except false from insert into join",
+    "none not on or rollback select set true union update values when where",
+    "ALTER AND AS BEGIN CHOICE COMMIT CREATE DELETE EMPTY EXCEPT FALSE FROM INSERT INTO JOIN",
+    "NONE NOT ON OR ROLLBACK SELECT SET TRUE UNION UPDATE VALUES WHEN WHERE",
+];
+
+#[test]
+fn a_reserved_word_is_no_name(rt: HostRuntime) -> Result<(), Fail> {
+    let alloc = rt.alloc();
+    for words in RESERVED_WORDS {
+        for word in words.split(' ') {
+            let name = Name::from_slice(alloc, word.as_bytes())?;
+            assert!(rt; !is_name(&name), "the word {word}");
+            let mut names = Vec::new(alloc);
+            names.push(name)?;
+            match Features::new(List::from_vec(names)) {
+                Ok(_) => assert!(rt; false, "a feature {word}"),
+                Err(why) => assert_eq!(rt; why, FeaturesRefused::NotAName(0), "the word {word}"),
+            }
+        }
     }
     Ok(())
 }

@@ -14,7 +14,7 @@ pub enum Kind {
 }
 
 /// The content of a cell. Integers are ordered by value, texts by their bytes, and false is before true.
-#[derive(Debug, PartialEq, Eq, PartialOrd, Ord, Drop)]
+#[derive(Debug, PartialEq, Eq, PartialOrd, Ord, Hash, Drop)]
 pub enum Value {
     Int(i64),
     Text(Text),
