@@ -1,7 +1,7 @@
 ghost use Rattle.std.specs.Prelude.{◌≡◌, true, length};
 ghost use Rattle.vra_types.specs.Alike.{AreAlike, HasAlike, valued};
 
-use feature_expr::{Expr, Value};
+use feature_expr::{Value, is_same_expr, mixed};
 use std::collections::BTreeMap;
 use vschema::OpeningRow;
 
@@ -52,75 +52,11 @@ fn have_values_alike(one: &[Option<Value>], other: &[Option<Value>]) -> bool
     true
 }
 
-/// Whether two expressions are the same, node by node.
-fn is_same_expr(one: &Expr, other: &Expr) -> bool
-    ensures { result ≡ true → one.now ≡ other.now }
-{
-    let mut left = one;
-    let mut right = other;
-    loop {
-        match (left, right) {
-            (Expr::True, Expr::True) => return true,
-            (Expr::False, Expr::False) => return true,
-            (Expr::Feature(one), Expr::Feature(other)) => return *one == *other,
-            (Expr::Not(one), Expr::Not(other)) => {
-                left = one.get();
-                right = other.get();
-            }
-            (Expr::And(one, one_right), Expr::And(other, other_right)) => {
-                if !is_same_expr(one_right.get(), other_right.get()) {
-                    return false;
-                }
-                left = one.get();
-                right = other.get();
-            }
-            (Expr::Or(one, one_right), Expr::Or(other, other_right)) => {
-                if !is_same_expr(one_right.get(), other_right.get()) {
-                    return false;
-                }
-                left = one.get();
-                right = other.get();
-            }
-            _ => return false,
-        }
-    }
-}
-
 /// A number that rows which are alike share, and others hardly ever.
 pub fn fingerprint(row: &OpeningRow) -> u64 {
     let mut print = mixed(0, row.table as u64);
     for cell in row.cells.as_slice() {
         print = mixed(print, cell.is_some() as u64);
     }
-    expr_fingerprint(print, &row.cond)
-}
-
-fn expr_fingerprint(start: u64, expr: &Expr) -> u64 {
-    let mut print = start;
-    let mut at = expr;
-    loop {
-        match at {
-            Expr::True => return mixed(print, 2),
-            Expr::False => return mixed(print, 3),
-            Expr::Feature(feature) => return mixed(print, 7 + *feature as u64),
-            Expr::Not(inner) => {
-                print = mixed(print, 4);
-                at = inner.get();
-            }
-            Expr::And(left, right) => {
-                print = expr_fingerprint(mixed(print, 5), right.get());
-                at = left.get();
-            }
-            Expr::Or(left, right) => {
-                print = expr_fingerprint(mixed(print, 6), right.get());
-                at = left.get();
-            }
-        }
-    }
-}
-
-fn mixed(print: u64, part: u64) -> u64 {
-    (print ^ part)
-        .wrapping_mul(0x9E37_79B9_7F4A_7C15)
-        .rotate_left(23)
+    mixed(print, feature_expr::fingerprint(&row.cond))
 }

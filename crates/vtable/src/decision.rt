@@ -7,10 +7,9 @@ ghost use Rattle.vtable.specs.Passes.{IsDecision, fate_of, cells_by, cell_by, ro
 ghost use Rattle.vtable.specs.TableForm.{has_cell};
 
 use crate::possible::{holds_always, holds_somewhere, meet_somewhere};
-use crate::same::is_same_expr;
 use crate::table::{VColumn, VRow};
 use condition_sat::Model;
-use feature_expr::{Expr, List, Memory, TryCopy, Value};
+use feature_expr::{Expr, List, Memory, TryCopy, Value, is_same_expr};
 use std::alloc::Global;
 
 /// What becomes of a row's cell in a column.

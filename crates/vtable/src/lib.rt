@@ -11,7 +11,6 @@ mod join;
 mod out_table;
 mod plain;
 mod possible;
-mod same;
 mod table;
 #[cfg(test)]
 mod tests;

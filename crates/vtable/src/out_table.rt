@@ -10,10 +10,9 @@ use crate::columns::{decided_columns, staying_columns};
 use crate::decision::{Decision, cut_row, decision_for};
 use crate::group::{CutRow, grouped, in_order};
 use crate::join::joined_rows;
-use crate::same::fingerprint;
 use crate::table::{VColumn, VRow, VTable};
 use condition_sat::Model;
-use feature_expr::{List, Memory};
+use feature_expr::{List, Memory, fingerprint};
 use std::alloc::Global;
 use std::marker;
 

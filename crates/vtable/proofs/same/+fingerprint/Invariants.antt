@@ -1,6 +1,0 @@
-use Rattle.std.proofs.Common.{◌≤◌}
-use Rattle.feature_expr.specs.declared.expr.Expr.{size-Expr}
-use Rattle.vtable.proofs.same.+fingerprint.Given as goal
-
-abbrev pub invariant-loop-at : goal.invariant-loop-at
-invariant-loop-at l = size-Expr l.at ≤ size-Expr l.fn.expr
