@@ -1,5 +1,6 @@
 ghost use Rattle.std.specs.Prelude.{◌≡◌, IfOk, IfErr, OnOk};
 ghost use Rattle.vra_types.specs.Check.{HasVariant, Passes, Refuses, RefusesModel};
+ghost use Rattle.vra_types.specs.declared.refused.CheckRefused.TheVariants as refused;
 
 use crate::check_row::check_rows;
 use crate::check_table::check_tables;
@@ -13,6 +14,7 @@ use vschema::{Catalog, OpeningRow};
 /// in this order: the model, the tables, the rows, and in a row its columns.
 ///
 /// It asks whether conditions can hold together, once for rows that are alike, and goes through no variants.
+#[tactic(auto, using(crate::proofs::PassLaws::unrefused))]
 pub fn check_catalog(
     alloc: Global,
     catalog: &Catalog,
@@ -20,6 +22,7 @@ pub fn check_catalog(
 ) -> Result<Model, CheckRefused>
     ensures model { IfOk result (λ model. model ≡ catalog.now.model) }
     ensures passes { OnOk result (Passes catalog.now rows.now) }
+    ensures accepted { Passes catalog.now rows.now → IfErr result (λ why. why ≡ refused.Memory) }
     ensures refused { IfErr result (λ why. Refuses catalog.now rows.now why) }
 {
     let expr = catalog.model.copy(alloc)?;
