@@ -1,5 +1,5 @@
 -- Joining conditions pairwise keeps what they mean.
-use Rattle.std.proofs.Common.{◌≡◌, ℕ, ◌+◌, ◌||◌, Bool, true, false, List, [], ◌∷◌, ◌++◌, length, refl, sym, ◌∙◌, ap, rules, arith, length-append}
+use Rattle.std.proofs.Common.{◌≡◌, ℕ, ◌+◌, ◌||◌, Bool, true, false, List, [], ◌∷◌, ◌++◌, length, refl, sym, ◌∙◌, ap, arith, length-append}
 use Rattle.std.specs.List.{sum_by}
 use Rattle.std.proofs.lemmas.List.Folds.{list_any-append}
 use Rattle.std.proofs.lemmas.List.Sums.{sum_by-append}
@@ -15,13 +15,6 @@ or-false false = refl
 or-assoc : (a b c : Bool) → ((a || b) || c) ≡ (a || (b || c))
 or-assoc true b c = refl
 or-assoc false b c = refl
-
-or-later : (a b c : Bool) → (a || (b || c)) ≡ ((a || c) || b)
-or-later true b c = refl
-or-later false true true = refl
-or-later false true false = refl
-or-later false false true = refl
-or-later false false false = refl
 
 pub any_push : (c : List ℕ) (conds : List Expr) (cond : Expr) → any_holds c (conds ++ cond ∷ []) ≡ (any_holds c conds || satisfies c cond)
 any_push c conds cond = list_any-append (satisfies c) conds (cond ∷ []) ∙ ap (λ b. any_holds c conds || b) (or-false (satisfies c cond))
@@ -40,35 +33,14 @@ pair_holds c old new left right pair is meaning =
     ∙ sym (or-assoc (any_holds c new) (satisfies c left) (satisfies c right))
     ∙ sym (any_push c old right ∙ ap (λ xs. any_holds c xs || satisfies c right) is ∙ ap (λ b. b || satisfies c right) (any_push c new left))
 
--- a pair that is put behind those that are joined already
-pub pair_put : (c : List ℕ) (conds new joined joined_new : List Expr) (pair : Expr) → (any_holds c new || satisfies c pair) ≡ any_holds c conds → joined_new ≡ joined ++ pair ∷ [] → (any_holds c new || any_holds c joined_new) ≡ (any_holds c conds || any_holds c joined)
-pair_put c conds new joined joined_new pair holds is =
-    ap (λ xs. any_holds c new || any_holds c xs) is
-    ∙ ap (λ b. any_holds c new || b) (any_push c joined pair)
-    ∙ or-later (any_holds c new) (any_holds c joined) (satisfies c pair)
-    ∙ ap (λ b. b || any_holds c joined) holds
-
 -- ---- the features that occur
 
 pub mentions_push : (i : ℕ) (conds : List Expr) (cond : Expr) → any_mentions i (conds ++ cond ∷ []) ≡ (any_mentions i conds || mentions i cond)
 mentions_push i conds cond = list_any-append (mentions i) conds (cond ∷ []) ∙ ap (λ b. any_mentions i conds || b) (or-false (mentions i cond))
 
-or_here : (a b : Bool) → a ≡ true → (a || b) ≡ true
-or_here true b h = refl
-or_here false b h = search rules
-
-or_there : (a b : Bool) → b ≡ true → (a || b) ≡ true
-or_there true b h = refl
-or_there false b h = h
-
 of_last_two : (new pair left right : Bool) → (pair ≡ true → (left || right) ≡ true) → (new || pair) ≡ true → ((new || left) || right) ≡ true
 of_last_two true pair left right of_sides h = refl
 of_last_two false pair left right of_sides h = of_sides h
-
-of_all : (new joined pair all : Bool) → ((new || pair) ≡ true → all ≡ true) → (new || (joined || pair)) ≡ true → (all || joined) ≡ true
-of_all true joined pair all of_rest h = or_here all joined (of_rest refl)
-of_all false true pair all of_rest h = or_there all true refl
-of_all false false pair all of_rest h = or_here all false (of_rest h)
 
 -- the last two in one
 pub pair_known : (i : ℕ) (old new : List Expr) (left right pair : Expr) → old ≡ new ++ left ∷ [] → (mentions i pair ≡ true → (mentions i left || mentions i right) ≡ true) → (any_mentions i new || mentions i pair) ≡ true → any_mentions i (old ++ right ∷ []) ≡ true
@@ -77,9 +49,3 @@ pair_known i old new left right pair is of_sides h =
     ∙ ap (λ xs. any_mentions i xs || mentions i right) is
     ∙ ap (λ b. b || mentions i right) (mentions_push i new left)
     ∙ of_last_two (any_mentions i new) (mentions i pair) (mentions i left) (mentions i right) of_sides h
-
--- a pair that is put behind those that are joined already
-pub pair_put_known : (i : ℕ) (conds new joined joined_new : List Expr) (pair : Expr) → ((any_mentions i new || mentions i pair) ≡ true → any_mentions i conds ≡ true) → joined_new ≡ joined ++ pair ∷ [] → (any_mentions i new || any_mentions i joined_new) ≡ true → (any_mentions i conds || any_mentions i joined) ≡ true
-pair_put_known i conds new joined joined_new pair of_rest is h =
-    of_all (any_mentions i new) (any_mentions i joined) (mentions i pair) (any_mentions i conds) of_rest
-    (sym (ap (λ xs. any_mentions i new || any_mentions i xs) is ∙ ap (λ b. any_mentions i new || b) (mentions_push i joined pair)) ∙ h)
