@@ -25,20 +25,30 @@ pub fn check_catalog(
     ensures accepted { Passes catalog.now rows.now → IfErr result (λ why. why ≡ refused.Memory) }
     ensures refused { IfErr result (λ why. Refuses catalog.now rows.now why) }
 {
-    let expr = catalog.model.copy(alloc)?;
-    let model = Model::new(alloc, expr)?;
-    check_model(&model)?;
+    let model = checked_model(alloc, &catalog.model)?;
     check_tables(alloc, &model, catalog.tables.as_slice())?;
     check_rows(alloc, &model, catalog.tables.as_slice(), rows.as_slice())?;
     Ok(model)
 }
 
-fn check_model(model: &Model) -> Result<(), CheckRefused>
-    ensures ok { OnOk result (HasVariant model.now) }
-    ensures err { IfErr result (λ why. RefusesModel model.now why) }
+/// The feature model, where it admits a configuration.
+fn checked_model(alloc: Global, expr: &Expr) -> Result<Model, CheckRefused>
+    ensures model { IfOk result (λ model. model ≡ expr.now) }
+    ensures ok { OnOk result (HasVariant expr.now) }
+    ensures err { IfErr result (λ why. RefusesModel expr.now why) }
 {
-    let anything = Expr::True;
-    match model.find(&anything)? {
+    let expr = expr.copy(alloc)?;
+    let mut model = Model::new(alloc, expr)?;
+    check_model(&mut model)?;
+    Ok(model)
+}
+
+fn check_model(model: &mut Model) -> Result<(), CheckRefused>
+    ensures same { model.new ≡ model.old }
+    ensures ok { OnOk result (HasVariant model.old) }
+    ensures err { IfErr result (λ why. RefusesModel model.old why) }
+{
+    match model.find_any()? {
         Some(_config) => Ok(()),
         None => Err(CheckRefused::NoVariant),
     }
