@@ -35,6 +35,3 @@ mentions-And i l r = search (rules, e.the_lemmas)
 
 pub mentions-Or : (i : ℕ) (l r : Expr) → mentions i (e.Or l r) ≡ (mentions i l || mentions i r)
 mentions-Or i l r = search (rules, e.the_lemmas)
-
-pub mentions-True : (i : ℕ) → mentions i e.True ≡ false
-mentions-True i = search (rules, e.the_lemmas)

@@ -4,8 +4,7 @@ use Rattle.std.specs.Prelude.{IfNone}
 use Rattle.std.proofs.lemmas.Bool.Decides.{eqb_tells}
 use Rattle.feature_expr.specs.Config.{has_feature}
 use Rattle.condition_sat.specs.declared.search.Assignment.{Assignment}
-use Rattle.condition_sat.specs.declared.search.Constraint.{Constraint}
-use Rattle.condition_sat.specs.Search.{Extends, IsUnassigned, all_met}
+use Rattle.condition_sat.specs.Search.{Extends, IsUnassigned}
 use Rattle.condition_sat.proofs.Assigned.{same_number}
 use Rattle.condition_sat.proofs.Counting.{unassigned_below, fewer}
 
@@ -75,14 +74,14 @@ true_or_false : (b : Bool) → (b ≡ true) ⊎ (b ≡ false)
 true_or_false true = inl refl
 true_or_false false = inr refl
 
-unmet_both_ways : (ds : List Constraint) (p holding_it without_it : Assignment) (f : ℕ) → IsHolding p holding_it f → IsWithout p without_it f → ((c : List ℕ) → Extends c holding_it → all_met c ds ≡ false) → ((c : List ℕ) → Extends c without_it → all_met c ds ≡ false) → (c : List ℕ) → Extends c p → all_met c ds ≡ false
-unmet_both_ways ds p holding_it without_it f holding without unmet_yes unmet_no c extends =
+unmet_both_ways : (met : List ℕ → Bool) (p holding_it without_it : Assignment) (f : ℕ) → IsHolding p holding_it f → IsWithout p without_it f → ((c : List ℕ) → Extends c holding_it → met c ≡ false) → ((c : List ℕ) → Extends c without_it → met c ≡ false) → (c : List ℕ) → Extends c p → met c ≡ false
+unmet_both_ways met p holding_it without_it f holding without unmet_yes unmet_no c extends =
     elim (true_or_false (has_feature c f)) [
       | inl has ↦ unmet_yes c (extends_holding p holding_it f c holding extends has)
       | inr lacks ↦ unmet_no c (extends_without p without_it f c without extends lacks)
     ]
 
 -- what the two halves of a split find, the whole finds
-pub none_of_both : (ds : List Constraint) (p holding_it without_it : Assignment) (f : ℕ) (found : Option (List ℕ)) → IsHolding p holding_it f → IsWithout p without_it f → ((c : List ℕ) → Extends c holding_it → all_met c ds ≡ false) → IfNone found ((c : List ℕ) → Extends c without_it → all_met c ds ≡ false) → IfNone found ((c : List ℕ) → Extends c p → all_met c ds ≡ false)
-none_of_both ds p holding_it without_it f None holding without unmet_yes unmet_no = unmet_both_ways ds p holding_it without_it f holding without unmet_yes unmet_no
-none_of_both ds p holding_it without_it f (Some c) holding without unmet_yes unmet_no = unmet_no
+pub none_of_both : (met : List ℕ → Bool) (p holding_it without_it : Assignment) (f : ℕ) (found : Option (List ℕ)) → IsHolding p holding_it f → IsWithout p without_it f → ((c : List ℕ) → Extends c holding_it → met c ≡ false) → IfNone found ((c : List ℕ) → Extends c without_it → met c ≡ false) → IfNone found ((c : List ℕ) → Extends c p → met c ≡ false)
+none_of_both met p holding_it without_it f None holding without unmet_yes unmet_no = unmet_both_ways met p holding_it without_it f holding without unmet_yes unmet_no
+none_of_both met p holding_it without_it f (Some c) holding without unmet_yes unmet_no = unmet_no

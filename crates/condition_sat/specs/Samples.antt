@@ -1,20 +1,19 @@
--- Configurations that are kept with a model.
+-- Configurations that are kept with a model, and those that answer what is asked.
 use Rattle.std.specs.Prelude.{◌≡◌, ℕ, true, ◌||◌, List}
 use Rattle.feature_expr.specs.declared.expr.Expr.{Expr}
 use Rattle.feature_expr.specs.Config.{has_feature}
 use Rattle.feature_expr.specs.Expressions.{mentions}
-use Rattle.condition_sat.specs.declared.search.Constraint.{Constraint}
+use Rattle.condition_sat.specs.declared.asked.Asked.{Asked}
 use Rattle.condition_sat.specs.Admitted.{IsAdmitted}
-use Rattle.condition_sat.specs.Search.{meets}
+use Rattle.condition_sat.specs.Asked.{all_met, occurs}
 
 -- an admitted configuration of features that occur in the model
 pub record IsSample (model : Expr) (c : List ℕ) : Type 0 where
   pub admitted : IsAdmitted model c
   pub occurring : (i : ℕ) → has_feature c i ≡ true → mentions i model ≡ true
 
--- an admitted configuration that meets two constraints, of features that occur
-pub record IsMeeting (model : Expr) (first second : Constraint) (c : List ℕ) : Type 0 where
+-- an admitted configuration that meets all that is asked, of features that occur
+pub record IsMeeting (model : Expr) (asked : List Asked) (c : List ℕ) : Type 0 where
   pub admitted : IsAdmitted model c
-  pub first_met : meets c first ≡ true
-  pub second_met : meets c second ≡ true
-  pub occurring : (i : ℕ) → has_feature c i ≡ true → (mentions i model || mentions i first.expr.now || mentions i second.expr.now) ≡ true
+  pub met : all_met c asked ≡ true
+  pub occurring : (i : ℕ) → has_feature c i ≡ true → (mentions i model || occurs i asked) ≡ true

@@ -1,12 +1,11 @@
--- Partial assignments, and what becomes of a constraint under one.
-use Rattle.std.specs.Prelude.{◌≡◌, ℕ, ◌<◌, Bool, true, false, not, List, Option, Some, None}
+-- Partial assignments, and what becomes of what is asked under one.
+use Rattle.std.specs.Prelude.{◌≡◌, ℕ, ◌<◌, ◌&&◌, ◌||◌, Bool, true, false, not, List, Option, Some, None}
 use Rattle.feature_expr.specs.declared.expr.Expr.{Expr}
 use Rattle.feature_expr.specs.Config.{IsConfig, feature_limit, has_feature}
 use Rattle.feature_expr.specs.Satisfaction.{satisfies}
 use Rattle.feature_expr.specs.Expressions.{mentions}
-use Rattle.std.specs.List.{list_all, list_any}
-use Rattle.std.proofs.Math.Bool.{beq}
-use Rattle.condition_sat.specs.declared.search.Constraint.{Constraint}
+use Rattle.condition_sat.specs.Asked.{all_met, occurs}
+use Rattle.condition_sat.specs.declared.asked.Asked.{Asked}
 use Rattle.condition_sat.specs.declared.search.Assignment.{Assignment}
 use Rattle.condition_sat.specs.declared.search.Status.{Status}
 use Rattle.condition_sat.specs.declared.search.Status.TheVariants as status
@@ -28,28 +27,27 @@ abbrev pub IsAssigned : Assignment → ℕ → Option Bool → Type 0
 IsAssigned assignment feature (Some value) = (has_feature assignment.held feature ≡ value) × ((c : List ℕ) → Extends c assignment → has_feature c feature ≡ value)
 IsAssigned assignment feature None = IsUnassigned assignment feature
 
--- what becomes of the constraint that an expression has a value
+-- what becomes of the demand that an expression has a value
 abbrev pub IsStatus : Expr → Bool → Assignment → Status → Type 0
 IsStatus e value assignment status.Satisfied = satisfies assignment.held e ≡ value
 IsStatus e value assignment status.Falsified = (c : List ℕ) → Extends c assignment → satisfies c e ≡ not value
 IsStatus e value assignment (status.Undecided feature) = IsUnassigned assignment feature × (mentions feature e ≡ true)
 
--- whether a configuration meets a constraint
-abbrev pub meets : List ℕ → Constraint → Bool
-meets c constraint = beq (satisfies c constraint.expr.now) constraint.value
+-- what becomes of all that is asked
+abbrev pub IsStatusOfAll : List Asked → Assignment → Status → Type 0
+IsStatusOfAll asked assignment status.Satisfied = all_met assignment.held asked ≡ true
+IsStatusOfAll asked assignment status.Falsified = (c : List ℕ) → Extends c assignment → all_met c asked ≡ false
+IsStatusOfAll asked assignment (status.Undecided feature) = IsUnassigned assignment feature × (occurs feature asked ≡ true)
 
-abbrev pub all_met : List ℕ → List Constraint → Bool
-all_met c constraints = list_all (λ d. meets c d) constraints
+-- whether a model holds, and all that is asked is met
+abbrev pub admits_all : Expr → List Asked → List ℕ → Bool
+admits_all model asked c = satisfies c model && all_met c asked
 
--- whether a feature occurs in a constraint
-abbrev pub occurs : ℕ → List Constraint → Bool
-occurs feature constraints = list_any (λ d. mentions feature d.expr.now) constraints
-
--- what becomes of several constraints together
-abbrev pub IsStatusOfAll : List Constraint → Assignment → Status → Type 0
-IsStatusOfAll constraints assignment status.Satisfied = all_met assignment.held constraints ≡ true
-IsStatusOfAll constraints assignment status.Falsified = (c : List ℕ) → Extends c assignment → all_met c constraints ≡ false
-IsStatusOfAll constraints assignment (status.Undecided feature) = IsUnassigned assignment feature × (occurs feature constraints ≡ true)
+-- what becomes of a model and all that is asked under it
+abbrev pub IsStatusUnder : Expr → List Asked → Assignment → Status → Type 0
+IsStatusUnder model asked assignment status.Satisfied = admits_all model asked assignment.held ≡ true
+IsStatusUnder model asked assignment status.Falsified = (c : List ℕ) → Extends c assignment → admits_all model asked c ≡ false
+IsStatusUnder model asked assignment (status.Undecided feature) = IsUnassigned assignment feature × ((mentions feature model || occurs feature asked) ≡ true)
 
 -- an expression that has a value exactly where both of its sides have it
 pub record IsOfBoth (whole left right : Expr) (value : Bool) : Type 0 where

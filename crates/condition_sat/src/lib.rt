@@ -3,10 +3,10 @@
 //! The search is plain: it splits on one feature after another. Public contracts know nothing of it.
 #![tactic(auto)]
 
+mod asked;
 mod model;
 mod samples;
 mod search;
-#[cfg(test)]
-mod tests;
 
+pub use asked::Asked;
 pub use model::Model;

@@ -3,11 +3,12 @@ ghost use Rattle.feature_expr.specs.Config.{has_feature};
 ghost use Rattle.feature_expr.specs.Satisfaction.{satisfies};
 ghost use Rattle.feature_expr.specs.Expressions.{mentions};
 ghost use Rattle.condition_sat.specs.Admitted.{IsAdmitted, SomeAdmitted};
-ghost use Rattle.condition_sat.specs.Search.{meets};
-ghost use Rattle.condition_sat.specs.Samples.{IsMeeting};
+ghost use Rattle.condition_sat.specs.Asked.{all_met, occurs};
+ghost use Rattle.condition_sat.specs.Samples.{IsMeeting, IsSample};
 
+use crate::asked::Asked;
 use crate::samples::{sample_meeting, samples_of};
-use crate::search::{Assignment, Constraint, search};
+use crate::search::{Assignment, search};
 use feature_expr::{Config, Expr, Memory, eval};
 use std::alloc::Global;
 use std::marker;
@@ -69,8 +70,47 @@ impl Model {
         ensures occurring { IfOk result (λ found. IfSome found (λ c. (i : ℕ) → IsTrue (has_feature c i) → IsTrue (mentions i self.now || mentions i expr.now))) }
         ensures none { IfOk result (λ found. IfNone found ((c : Items ℕ) → IsAdmitted self.now c → satisfies c expr.now ≡ false)) }
     {
-        let anything = Expr::True;
-        Ok(self.meeting(wanted(expr, true), wanted(&anything, true)))
+        Ok(self.meeting(&[wanted(expr, true)]))
+    }
+
+    /// An admitted configuration in which each expression that is asked about has its value, if there is one.
+    pub fn find_meeting(&self, asked: &[Asked<'_>]) -> Result<Option<Config>, Memory>
+        ensures admitted { IfOk result (λ found. IfSome found (λ c. IsAdmitted self.now c)) }
+        ensures met { IfOk result (λ found. IfSome found (λ c. all_met c asked.now ≡ true)) }
+        ensures occurring { IfOk result (λ found. IfSome found (λ c. (i : ℕ) → IsTrue (has_feature c i) → IsTrue (mentions i self.now || occurs i asked.now))) }
+        ensures none { IfOk result (λ found. IfNone found ((c : Items ℕ) → IsAdmitted self.now c → all_met c asked.now ≡ false)) }
+    {
+        Ok(self.meeting(asked))
+    }
+
+    /// An admitted configuration, if there is one. A model that has none at hand keeps the one that it finds, so that
+    /// later questions are tried on it first.
+    #[tactic(auto, using(crate::proofs::Found::is_sample, crate::proofs::Found::none_at_all))]
+    pub fn find_any(&mut self) -> Result<Option<Config>, Memory>
+        ensures same { self.new ≡ self.old }
+        ensures admitted { IfOk result (λ found. IfSome found (λ c. IsAdmitted self.old c)) }
+        ensures occurring { IfOk result (λ found. IfSome found (λ c. (i : ℕ) → IsTrue (has_feature c i) → IsTrue (mentions i self.old))) }
+        ensures none { IfOk result (λ found. IfNone found ((c : Items ℕ) → IsAdmitted self.old c → ⊥)) }
+    {
+        let found = self.meeting(&[]);
+        match found {
+            Some(config) => {
+                self.keep(config)?;
+                Ok(Some(config))
+            }
+            None => Ok(None),
+        }
+    }
+
+    /// Keeps a configuration, where none is at hand.
+    fn keep(&mut self, config: Config) -> Result<(), Memory>
+        requires { IsSample self.old config }
+        ensures { self.new ≡ self.old }
+    {
+        if self.samples.is_empty() {
+            self.samples.push(config)?;
+        }
+        Ok(())
     }
 
     /// Whether every admitted configuration satisfies the expression.
@@ -78,8 +118,7 @@ impl Model {
         ensures yes { IfOk result (λ answer. answer ≡ true → (c : Items ℕ) → IsAdmitted self.now c → satisfies c expr.now ≡ true) }
         ensures no { IfOk result (λ answer. answer ≡ false → SomeAdmitted self.now (λ c. satisfies c expr.now ≡ false)) }
     {
-        let anything = Expr::True;
-        let failing = self.meeting(wanted(expr, false), wanted(&anything, true));
+        let failing = self.meeting(&[wanted(expr, false)]);
         Ok(failing.is_none())
     }
 
@@ -88,11 +127,11 @@ impl Model {
         ensures yes { IfOk result (λ answer. answer ≡ true → (c : Items ℕ) → IsAdmitted self.now c → satisfies c left.now ≡ satisfies c right.now) }
         ensures no { IfOk result (λ answer. answer ≡ false → SomeAdmitted self.now (λ c. satisfies c left.now ≡ negation (satisfies c right.now))) }
     {
-        let left_alone = self.meeting(wanted(left, true), wanted(right, false));
+        let left_alone = self.meeting(&[wanted(left, true), wanted(right, false)]);
         if left_alone.is_some() {
             return Ok(false);
         }
-        let right_alone = self.meeting(wanted(left, false), wanted(right, true));
+        let right_alone = self.meeting(&[wanted(left, false), wanted(right, true)]);
         Ok(right_alone.is_none())
     }
 
@@ -101,35 +140,34 @@ impl Model {
         ensures yes { IfOk result (λ answer. answer ≡ true → (c : Items ℕ) → IsAdmitted self.now c → (satisfies c left.now && satisfies c right.now) ≡ false) }
         ensures no { IfOk result (λ answer. answer ≡ false → SomeAdmitted self.now (λ c. (satisfies c left.now && satisfies c right.now) ≡ true)) }
     {
-        let shared = self.meeting(wanted(left, true), wanted(right, true));
+        let shared = self.meeting(&[wanted(left, true), wanted(right, true)]);
         Ok(shared.is_none())
     }
 
-    /// An admitted configuration that meets both constraints, if there is one.
-    fn meeting(&self, first: Constraint, second: Constraint) -> Option<Config>
-        ensures some { IfSome result (λ c. IsMeeting self.now first.entry second.entry c) }
-        ensures none { IfNone result ((c : Items ℕ) → IsAdmitted self.now c → (meets c first.entry && meets c second.entry) ≡ false) }
+    /// An admitted configuration that meets all that is asked, if there is one.
+    fn meeting(&self, asked: &[Asked]) -> Option<Config>
+        ensures some { IfSome result (λ c. IsMeeting self.now asked.now c) }
+        ensures none { IfNone result ((c : Items ℕ) → IsAdmitted self.now c → all_met c asked.now ≡ false) }
     {
-        match sample_meeting(&self.samples, first, second) {
+        match sample_meeting(&self.samples, asked) {
             Some(sample) => Some(sample),
-            None => self.searched(first, second),
+            None => self.searched(asked),
         }
     }
 
-    fn searched(&self, first: Constraint, second: Constraint) -> Option<Config>
-        ensures some { IfSome result (λ c. IsMeeting self.now first.entry second.entry c) }
-        ensures none { IfNone result ((c : Items ℕ) → IsAdmitted self.now c → (meets c first.entry && meets c second.entry) ≡ false) }
+    fn searched(&self, asked: &[Asked]) -> Option<Config>
+        ensures some { IfSome result (λ c. IsMeeting self.now asked.now c) }
+        ensures none { IfNone result ((c : Items ℕ) → IsAdmitted self.now c → all_met c asked.now ≡ false) }
     {
-        let constraints = [wanted(&self.expr, true), first, second];
-        let found = search(&constraints, &Assignment::none())?;
+        let found = search(&self.expr, asked, &Assignment::none())?;
         found.known();
         Some(found)
     }
 }
 
-fn wanted(expr: &Expr, value: bool) -> Constraint<'_>
+fn wanted(expr: &Expr, value: bool) -> Asked<'_>
     ensures expr { result.expr.now ≡ expr.now }
     ensures value { result.value ≡ value }
 {
-    Constraint { expr, value }
+    Asked { expr, value }
 }

@@ -3,9 +3,10 @@ ghost use Rattle.std.specs.Prelude.{◌≡◌, ℕ, ◌==◌, ◌<◌, ◌||◌,
 ghost use Rattle.std.specs.List.{All};
 ghost use Rattle.feature_expr.specs.Config.{has_feature};
 ghost use Rattle.condition_sat.specs.Samples.{IsSample};
-ghost use Rattle.condition_sat.specs.Search.{meets};
+ghost use Rattle.condition_sat.specs.Asked.{all_met};
 
-use crate::search::{Assignment, Constraint, Status, status_of_all};
+use crate::asked::{Asked, are_met};
+use crate::search::{Assignment, Status, status_of_all};
 use feature_expr::{Config, Expr, FEATURE_LIMIT, Memory, features_of};
 use std::alloc::Global;
 
@@ -41,12 +42,12 @@ pub fn samples_of(alloc: Global, model: &Expr) -> Result<Vec<Config>, Memory>
 fn sample_near(model: &Expr, pattern: u64) -> Option<Config>
     ensures { IfSome result (λ c. IsSample model.now c) }
 {
-    let constraints = [Constraint {
+    let asked = [Asked {
         expr: model,
         value: true,
     }];
-    let assignment = assigned_near(&constraints, features_of(model), pattern);
-    match status_of_all(&constraints, &assignment) {
+    let assignment = assigned_near(&asked, features_of(model), pattern);
+    match status_of_all(&asked, &assignment) {
         Status::Satisfied => {
             let sample = assignment.held();
             sample.known();
@@ -56,37 +57,27 @@ fn sample_near(model: &Expr, pattern: u64) -> Option<Config>
     }
 }
 
-/// The features are assigned as in the pattern, but for those with which no extension would meet the constraints.
-fn assigned_near(constraints: &[Constraint], features: Config, pattern: u64) -> Assignment
+/// The features are assigned as in the pattern, but for those with which no extension would meet what is asked.
+fn assigned_near(asked: &[Asked], features: Config, pattern: u64) -> Assignment
     ensures { (i : ℕ) → has_feature result.held i ≡ true → has_feature features i ≡ true }
 {
     let mut assignment = Assignment::none();
     for feature in 0..FEATURE_LIMIT {
         if features.has(feature) {
-            assignment = assigned_next(
-                constraints,
-                &assignment,
-                feature,
-                pattern >> feature & 1 == 1,
-            );
+            assignment = assigned_next(asked, &assignment, feature, pattern >> feature & 1 == 1);
         }
     }
     assignment
 }
 
-/// The same, and the feature is assigned the value, or else the other one where no extension would then meet the
-/// constraints.
-fn assigned_next(
-    constraints: &[Constraint],
-    assignment: &Assignment,
-    feature: u8,
-    value: bool,
-) -> Assignment
+/// The same, and the feature is assigned the value, or else the other one where no extension would then meet
+/// what is asked.
+fn assigned_next(asked: &[Asked], assignment: &Assignment, feature: u8, value: bool) -> Assignment
     requires { feature < FEATURE_LIMIT }
     ensures { (i : ℕ) → has_feature result.held i ≡ true → (i == feature || has_feature assignment.now.held i) ≡ true }
 {
     let next = assigned_to(assignment, feature, value);
-    match status_of_all(constraints, &next) {
+    match status_of_all(asked, &next) {
         Status::Falsified => assigned_to(assignment, feature, !value),
         _ => next,
     }
@@ -103,12 +94,12 @@ fn assigned_to(assignment: &Assignment, feature: u8, value: bool) -> Assignment
     }
 }
 
-/// The first sample that meets both constraints.
-pub fn sample_meeting(samples: &[Config], first: Constraint, second: Constraint) -> Option<Config>
-    ensures { IfSome result (λ c. Contains samples.now c × (meets c first.entry ≡ true) × (meets c second.entry ≡ true)) }
+/// The first sample that meets all that is asked.
+pub fn sample_meeting(samples: &[Config], asked: &[Asked]) -> Option<Config>
+    ensures { IfSome result (λ c. Contains samples.now c × (all_met c asked.now ≡ true)) }
 {
     for sample in samples {
-        if first.is_met(sample) && second.is_met(sample) {
+        if are_met(asked, sample) {
             return Some(*sample);
         }
     }

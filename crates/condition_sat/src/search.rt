@@ -1,11 +1,14 @@
-//! Whether some configuration meets several constraints at once: by splitting on one feature after another, with
-//! no copy of an expression.
+//! Whether some configuration meets all that is asked: by splitting on one feature after another, with no copy of an
+//! expression.
 ghost use Rattle.std.specs.Prelude.{◌≡◌, ℕ, ◌==◌, ◌||◌, ◌<◌, List as Items, [], true, false, not as negation, if◌then◌else◌, Some, IfSome, IfNone};
 ghost use Rattle.feature_expr.specs.declared.expr.Expr.{Expr};
 ghost use Rattle.feature_expr.specs.Satisfaction.{satisfies};
 ghost use Rattle.feature_expr.specs.Config.{has_feature};
-ghost use Rattle.condition_sat.specs.Search.{Extends, IsAssigned, IsStatus, IsOfSides, IsStatusOfAll, meets, all_met, occurs};
+ghost use Rattle.feature_expr.specs.Expressions.{mentions};
+ghost use Rattle.condition_sat.specs.Asked.{occurs};
+ghost use Rattle.condition_sat.specs.Search.{Extends, IsAssigned, IsStatus, IsOfSides, IsStatusOfAll, IsStatusUnder, admits_all};
 
+use crate::asked::Asked;
 use feature_expr::{Config, Expr, FEATURE_LIMIT, eval};
 
 /// A partial assignment: the features that are assigned true, and those that are assigned false.
@@ -15,30 +18,15 @@ pub struct Assignment {
     lacking: Config,
 }
 
-/// What becomes of a constraint under a partial assignment.
+/// What becomes, under a partial assignment, of what is asked.
 #[derive(Clone, Copy, Debug)]
 pub enum Status {
     /// It is met where nothing holds but what is assigned true.
     Satisfied,
     /// No extension of the assignment meets it.
     Falsified,
-    /// It may hang on this feature, which is unassigned.
+    /// It may depend on this feature, which is unassigned.
     Undecided(u8),
-}
-
-/// That an expression has a value.
-#[derive(Clone, Copy)]
-pub struct Constraint<'a> {
-    pub expr: &'a Expr,
-    pub value: bool,
-}
-
-impl Constraint<'_> {
-    pub fn is_met(&self, config: &Config) -> bool
-        ensures { result ≡ meets config.now self.now }
-    {
-        eval(self.expr, config) == self.value
-    }
 }
 
 impl Assignment {
@@ -155,7 +143,7 @@ fn can_be(expr: &Expr, value: bool, assignment: &Assignment) -> bool
     }
 }
 
-/// What becomes of the constraint that the expression has the value.
+/// What becomes of the demand that the expression has the value.
 fn status_of(expr: &Expr, value: bool, assignment: &Assignment) -> Status
     ensures { IsStatus expr.now value assignment.now result }
 {
@@ -198,8 +186,8 @@ fn fixed(met: bool) -> Status
     }
 }
 
-/// What becomes of two sides, both of which or one of which is constrainted, once the right one's status is known.
-/// None: what becomes of the left one.
+/// What becomes of an expression of whose two sides both, or one, must have the value, once the right one's status is
+/// known. None: what becomes of the left one.
 fn of_sides(
     both: bool,
     left: &Expr,
@@ -240,14 +228,14 @@ fn of_open_either(feature: u8, left: &Expr, value: bool, assignment: &Assignment
     }
 }
 
-/// What becomes of all constraints together. Of the features that they hang on it names one of the last constraint's
-/// that has any.
-pub fn status_of_all(constraints: &[Constraint], assignment: &Assignment) -> Status
-    ensures { IsStatusOfAll constraints.now assignment.now result }
+/// What becomes of all that is asked. Of the features that it depends on it names one of the last expression's that
+/// has any.
+pub fn status_of_all(asked: &[Asked], assignment: &Assignment) -> Status
+    ensures { IsStatusOfAll asked.now assignment.now result }
 {
     let mut all = Status::Satisfied;
-    for constraint in constraints {
-        match status_of(constraint.expr, constraint.value, assignment) {
+    for one in asked {
+        match status_of(one.expr, one.value, assignment) {
             Status::Satisfied => {}
             Status::Falsified => return Status::Falsified,
             Status::Undecided(feature) => all = Status::Undecided(feature),
@@ -256,19 +244,34 @@ pub fn status_of_all(constraints: &[Constraint], assignment: &Assignment) -> Sta
     all
 }
 
-/// A configuration that extends the assignment and meets all constraints, if there is one. The time may grow with
-/// the number of combinations of the features that occur, and the depth with the number of these features.
-pub fn search(constraints: &[Constraint], assignment: &Assignment) -> Option<Config>
-    ensures met { IfSome result (λ c. all_met c constraints.now ≡ true) }
-    ensures occurring { IfSome result (λ c. (i : ℕ) → has_feature c i ≡ true → (has_feature assignment.now.held i || occurs i constraints.now) ≡ true) }
-    ensures none { IfNone result ((c : Items ℕ) → Extends c assignment.now → all_met c constraints.now ≡ false) }
+/// What becomes of the model and of all that is asked under it.
+fn status_under(model: &Expr, asked: &[Asked], assignment: &Assignment) -> Status
+    ensures { IsStatusUnder model.now asked.now assignment.now result }
 {
-    match status_of_all(constraints, assignment) {
+    match status_of(model, true, assignment) {
+        Status::Falsified => Status::Falsified,
+        Status::Satisfied => status_of_all(asked, assignment),
+        Status::Undecided(feature) => match status_of_all(asked, assignment) {
+            Status::Satisfied => Status::Undecided(feature),
+            decided => decided,
+        },
+    }
+}
+
+/// A configuration that extends the assignment, in which the model holds and all that is asked is met, if there is one.
+/// The time may grow with the number of combinations of the features that occur, and the depth with the number of
+/// these features.
+pub fn search(model: &Expr, asked: &[Asked], assignment: &Assignment) -> Option<Config>
+    ensures met { IfSome result (λ c. admits_all model.now asked.now c ≡ true) }
+    ensures occurring { IfSome result (λ c. (i : ℕ) → has_feature c i ≡ true → (has_feature assignment.now.held i || (mentions i model.now || occurs i asked.now)) ≡ true) }
+    ensures none { IfNone result ((c : Items ℕ) → Extends c assignment.now → admits_all model.now asked.now c ≡ false) }
+{
+    match status_under(model, asked, assignment) {
         Status::Satisfied => Some(assignment.held),
         Status::Falsified => None,
-        Status::Undecided(feature) => match search(constraints, &assignment.holding(feature)) {
+        Status::Undecided(feature) => match search(model, asked, &assignment.holding(feature)) {
             Some(config) => Some(config),
-            None => search(constraints, &assignment.without(feature)),
+            None => search(model, asked, &assignment.without(feature)),
         },
     }
 }

@@ -175,6 +175,47 @@ fn fault_of(alloc: Global, text: &str, with_params: bool) -> Result<String, Fail
     }
 }
 
+/// Reserved words that stand for no query by themselves. None is a table's name.
+const RESERVED: &str =
+    "alter and as begin commit create delete except false from insert into join none not on \
+    or rollback set true union update values when where";
+
+/// Those that begin one, behind which something is missing, and the one that is one.
+const BEGINNINGS: &str = "choice select";
+
+#[test]
+fn a_reserved_word_is_no_table(rt: HostRuntime) -> Result<(), Fail> {
+    let alloc = rt.alloc();
+    are_refused_words(&rt, alloc, RESERVED, "syntax error at character 9", 25)?;
+    are_refused_words(&rt, alloc, BEGINNINGS, "syntax error at character 15", 2)?;
+    are_refused_words(&rt, alloc, "empty altar", "no fault", 2)
+}
+
+fn are_refused_words(
+    rt: &impl Abort,
+    alloc: Global,
+    words: &str,
+    wanted: &str,
+    count: usize,
+) -> Result<(), Fail> {
+    assert_eq!(rt; words.split(' ').count(), count);
+    for word in words.split(' ') {
+        is_refused_behind(rt, alloc, word, wanted)?;
+    }
+    Ok(())
+}
+
+/// Behind `union`, in small letters and in capitals.
+fn is_refused_behind(rt: &impl Abort, alloc: Global, word: &str, wanted: &str) -> Result<(), Fail> {
+    let mut text = format!(in alloc; "t union {word};")?;
+    let said = fault_of(alloc, text.as_str(), false)?;
+    assert_eq!(rt; said.as_str(), wanted, "{text}");
+    text.make_ascii_uppercase();
+    let said = fault_of(alloc, text.as_str(), false)?;
+    assert_eq!(rt; said.as_str(), wanted, "{text}");
+    Ok(())
+}
+
 /// Texts with white space at their end, several lines or other letters, and what they are refused for.
 const PLACES: [(&str, &str); 3] = [
     (

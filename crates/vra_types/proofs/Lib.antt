@@ -1,5 +1,4 @@
 mod AlikeRows
-mod Found
 mod Left
 mod NoGaps
 pub mod PassLaws

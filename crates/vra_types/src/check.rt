@@ -1,5 +1,6 @@
 ghost use Rattle.std.specs.Prelude.{◌≡◌, IfOk, IfErr, OnOk};
 ghost use Rattle.vra_types.specs.Check.{HasVariant, Passes, Refuses, RefusesModel};
+ghost use Rattle.vra_types.specs.declared.refused.CheckRefused.TheVariants as refused;
 
 use crate::check_row::check_rows;
 use crate::check_table::check_tables;
@@ -13,6 +14,7 @@ use vschema::{Catalog, OpeningRow};
 /// in this order: the model, the tables, the rows, and in a row its columns.
 ///
 /// It asks whether conditions can hold together, once for rows that are alike, and goes through no variants.
+#[tactic(auto, using(crate::proofs::PassLaws::unrefused))]
 pub fn check_catalog(
     alloc: Global,
     catalog: &Catalog,
@@ -20,22 +22,33 @@ pub fn check_catalog(
 ) -> Result<Model, CheckRefused>
     ensures model { IfOk result (λ model. model ≡ catalog.now.model) }
     ensures passes { OnOk result (Passes catalog.now rows.now) }
+    ensures accepted { Passes catalog.now rows.now → IfErr result (λ why. why ≡ refused.Memory) }
     ensures refused { IfErr result (λ why. Refuses catalog.now rows.now why) }
 {
-    let expr = catalog.model.copy(alloc)?;
-    let model = Model::new(alloc, expr)?;
-    check_model(&model)?;
+    let model = checked_model(alloc, &catalog.model)?;
     check_tables(alloc, &model, catalog.tables.as_slice())?;
     check_rows(alloc, &model, catalog.tables.as_slice(), rows.as_slice())?;
     Ok(model)
 }
 
-fn check_model(model: &Model) -> Result<(), CheckRefused>
-    ensures ok { OnOk result (HasVariant model.now) }
-    ensures err { IfErr result (λ why. RefusesModel model.now why) }
+/// The feature model, where it admits a configuration.
+fn checked_model(alloc: Global, expr: &Expr) -> Result<Model, CheckRefused>
+    ensures model { IfOk result (λ model. model ≡ expr.now) }
+    ensures ok { OnOk result (HasVariant expr.now) }
+    ensures err { IfErr result (λ why. RefusesModel expr.now why) }
 {
-    let anything = Expr::True;
-    match model.find(&anything)? {
+    let expr = expr.copy(alloc)?;
+    let mut model = Model::new(alloc, expr)?;
+    check_model(&mut model)?;
+    Ok(model)
+}
+
+fn check_model(model: &mut Model) -> Result<(), CheckRefused>
+    ensures same { model.new ≡ model.old }
+    ensures ok { OnOk result (HasVariant model.old) }
+    ensures err { IfErr result (λ why. RefusesModel model.old why) }
+{
+    match model.find_any()? {
         Some(_config) => Ok(()),
         None => Err(CheckRefused::NoVariant),
     }

@@ -1,4 +1,4 @@
-ghost use Rattle.std.specs.Prelude.{◌≡◌, [], ◌∷◌, map, slice_get, IfOk, IfErr, IfSome, IfNone, OnOk};
+ghost use Rattle.std.specs.Prelude.{◌≡◌, true, [], ◌∷◌, map, slice_get, IfOk, IfErr, IfSome, IfNone, OnOk};
 ghost use Rattle.std.specs.List.{flat_map};
 ghost use Rattle.std.specs.Option.{option_copied};
 ghost use Rattle.vschema.specs.Gaps.{columns_without, is_value};
@@ -6,8 +6,8 @@ ghost use Rattle.vra_types.specs.Check.{RowGap, row_gaps, row_gaps_in, IsGapAt, 
 
 use crate::alike::{fingerprint, is_alike_to_judged};
 use crate::refused::CheckRefused;
-use condition_sat::Model;
-use feature_expr::{Config, Memory, TryCopy, and};
+use condition_sat::{Asked, Model};
+use feature_expr::{Config, Expr, Memory, TryCopy};
 use std::alloc::Global;
 use std::collections::BTreeMap;
 use vschema::{Column, OpeningRow, Table};
@@ -95,7 +95,7 @@ fn check_cell(
     ensures ok { OnOk result (IsNowhere model.now (RowGap table.now row.now column.now)) }
     ensures err { IfErr result (λ why. RefusesGaps model.now (RowGap table.now row.now column.now ∷ []) why) }
 {
-    match missing_variant(alloc, model, table, row, column)? {
+    match missing_variant(model, table, row, column)? {
         Some(config) => {
             let name = column.name.copy(alloc)?;
             Err(CheckRefused::MissingValue(row.line, name, config))
@@ -104,9 +104,9 @@ fn check_cell(
     }
 }
 
-/// An admitted variant in which the row and the column are there.
+/// An admitted variant in which the row and the column are there. The table's condition is that of many rows, and is
+/// asked about only where the other two hold together.
 fn missing_variant(
-    alloc: Global,
     model: &Model,
     table: &Table,
     row: &OpeningRow,
@@ -115,10 +115,20 @@ fn missing_variant(
     ensures some { IfOk result (λ found. IfSome found (λ c. IsGapAt model.now (RowGap table.now row.now column.now) c)) }
     ensures none { IfOk result (λ found. IfNone found (IsNowhere model.now (RowGap table.now row.now column.now))) }
 {
-    let with_table = table.cond.copy(alloc)?;
-    let with_row = row.cond.copy(alloc)?;
-    let with_column = column.cond.copy(alloc)?;
-    let there = and(alloc, with_table, with_row)?;
-    let missing = and(alloc, there, with_column)?;
-    model.find(&missing)
+    let with_row = holds(&row.cond);
+    let with_column = holds(&column.cond);
+    match model.find_meeting(&[with_row, with_column])? {
+        Some(_config) => model.find_meeting(&[with_row, with_column, holds(&table.cond)]),
+        None => Ok(None),
+    }
+}
+
+fn holds(cond: &Expr) -> Asked<'_>
+    ensures expr { result.expr.now ≡ cond.now }
+    ensures value { result.value ≡ true }
+{
+    Asked {
+        expr: cond,
+        value: true,
+    }
 }

@@ -1,17 +1,16 @@
-ghost use Rattle.std.specs.Prelude.{◌≡◌, ℕ, [], ◌∷◌, map, List as Items, IfOk, IfErr, IfSome, IfNone, OnOk};
+ghost use Rattle.std.specs.Prelude.{◌≡◌, ℕ, not as negation, [], ◌∷◌, map, List as Items, IfOk, IfErr, IfSome, IfNone, OnOk};
 ghost use Rattle.std.specs.List.{list_any};
-ghost use Rattle.feature_expr.specs.Satisfaction.{satisfies};
+ghost use Rattle.condition_sat.specs.Asked.{all_met};
 ghost use Rattle.vschema.specs.Gaps.{is_column_there};
 ghost use Rattle.vra_types.specs.Check.{TableGap, IsGapAt, IsNowhere, AreNowhere, RefusesGaps};
 
 use crate::refused::CheckRefused;
-use condition_sat::Model;
-use feature_expr::{Config, Expr, Memory, TryCopy, and, not, or};
+use condition_sat::{Asked, Model};
+use feature_expr::{Config, Memory, TryCopy};
 use std::alloc::Global;
 use vschema::{Column, Table};
 
 /// Looks for the first table that is there without a column in an admitted variant.
-
 pub fn check_tables(alloc: Global, model: &Model, tables: &[Table]) -> Result<(), CheckRefused>
     ensures ok { OnOk result (AreNowhere model.now (map TableGap tables.now)) }
     ensures err { IfErr result (λ why. RefusesGaps model.now (map TableGap tables.now) why) }
@@ -40,24 +39,24 @@ fn bare_variant(alloc: Global, model: &Model, table: &Table) -> Result<Option<Co
     ensures some { IfOk result (λ found. IfSome found (λ c. IsGapAt model.now (TableGap table.now) c)) }
     ensures none { IfOk result (λ found. IfNone found (IsNowhere model.now (TableGap table.now))) }
 {
-    let with_columns = some_column(alloc, table.columns.as_slice())?;
-    let without_columns = not(alloc, with_columns)?;
-    let there = table.cond.copy(alloc)?;
-    let bare = and(alloc, there, without_columns)?;
-    model.find(&bare)
+    let mut asked = without_columns(alloc, table.columns.as_slice())?;
+    asked.push(Asked {
+        expr: &table.cond,
+        value: true,
+    })?;
+    model.find_meeting(&asked)
 }
 
-/// Holds where one of the columns is there. Columns behind one that is there in all variants cost nothing.
-fn some_column(alloc: Global, columns: &[Column]) -> Result<Expr, Memory>
-    ensures { IfOk result (λ it. (c : Items ℕ) → satisfies c it ≡ list_any (is_column_there c) columns.now) }
+/// That none of the columns is there.
+fn without_columns(alloc: Global, columns: &[Column]) -> Result<Vec<Asked<'_>>, Memory>
+    ensures { IfOk result (λ asked. (c : Items ℕ) → all_met c asked.items ≡ negation (list_any (is_column_there c) columns.now)) }
 {
-    let mut found = Expr::False;
+    let mut asked = Vec::new(alloc);
     for column in columns {
-        if let Expr::True = &found {
-            return Ok(found);
-        }
-        let there = column.cond.copy(alloc)?;
-        found = or(alloc, found, there)?;
+        asked.push(Asked {
+            expr: &column.cond,
+            value: false,
+        })?;
     }
-    Ok(found)
+    Ok(asked)
 }

@@ -7,8 +7,6 @@ mod check_row;
 mod check_table;
 mod laws;
 mod refused;
-#[cfg(test)]
-mod tests;
 
 pub use check::check_catalog;
 pub use laws::check_laws;

@@ -1,5 +1,5 @@
-use feature_expr::{Config, Memory, Name};
-use std::alloc::AllocFailed;
+use feature_expr::{Config, Memory, Name, TryCopy};
+use std::alloc::{AllocFailed, Global};
 
 /// Why a catalogue and its opening rows don't pass their check. The configuration is an admitted one.
 #[derive(Debug, Drop)]
@@ -11,6 +11,23 @@ pub enum CheckRefused {
     /// The row on this line is there and has no value in the column with this name, which is there.
     MissingValue(u64, Name, Config),
     Memory,
+}
+
+impl TryCopy for CheckRefused {
+    fn copy(&self, alloc: Global) -> Result<Self, Memory> {
+        match self {
+            CheckRefused::NoVariant => Ok(CheckRefused::NoVariant),
+            CheckRefused::NoColumn(name, config) => {
+                let name = name.copy(alloc)?;
+                Ok(CheckRefused::NoColumn(name, *config))
+            }
+            CheckRefused::MissingValue(line, name, config) => {
+                let name = name.copy(alloc)?;
+                Ok(CheckRefused::MissingValue(*line, name, *config))
+            }
+            CheckRefused::Memory => Ok(CheckRefused::Memory),
+        }
+    }
 }
 
 impl From<Memory> for CheckRefused {

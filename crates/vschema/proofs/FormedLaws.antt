@@ -19,6 +19,7 @@ use Rattle.feature_expr.specs.declared.expr.Expr as e
 use Rattle.feature_expr.specs.declared.expr.Expr.TheOpen.{Expr-F}
 use Rattle.feature_expr.specs.declared.token.Token.{Token}
 use Rattle.feature_expr.specs.declared.value.Value.{Value}
+use Rattle.vschema.specs.Limits.{most_tables}
 use Rattle.vschema.specs.Formed.{below_step, features_below, distinct, table_names, column_names, has_names, column_features_below, table_features_below, row_features_below, has_distinct_columns, CellsFit, FitsTable, RowFits, IsFormed}
 use Rattle.vschema.specs.Words.{name_at, lower, folded_at}
 use Rattle.vschema.specs.Spelling.{column_place, table_place, IsModel, no_model, some_model, IsWhen, no_when, some_when, IsColumn, ColumnsBefore, no_column_yet, another_column, AreColumns, IsTable, no_cells, CellsBefore, no_cell_yet, another_cell, AreCells, IsRow, IsEntry, tables_with, rows_with, EntriesTo, no_entry_yet, another_entry, SpellCatalogue}
@@ -28,7 +29,6 @@ use Rattle.vschema.specs.declared.catalog.OpeningRow.{OpeningRow}
 use Rattle.vschema.specs.declared.catalog.Table.{Table}
 use Rattle.vschema.specs.declared.entries.Entry.{Entry}
 use Rattle.vschema.specs.declared.entries.Entry.TheVariants as entry
-use Rattle.vschema.specs.declared.tables.TheConstants.{TABLE_LIMIT}
 use Rattle.vschema.proofs.HeadLaws.{is_a_name}
 use Rattle.std.proofs.lemmas.Iterator.Adapters.{position_from-zero}
 
@@ -288,7 +288,7 @@ module _ (names : List (List ℕ)) (text : List ℕ) (tokens : List Token) where
 
   -- tables and rows that are formed
   record Entries (tables : List Table) (rows : List OpeningRow) : Type 0 where
-    pub within : length tables ≤ TABLE_LIMIT
+    pub within : length tables ≤ most_tables
     pub named : list_all has_names tables ≡ true
     pub tables_known : list_all (table_features_below (length names)) tables ≡ true
     pub rows_known : list_all (row_features_below (length names)) rows ≡ true

@@ -17,11 +17,11 @@ use Rattle.feature_expr.specs.declared.parse.Fault.TheVariants as expr_fault
 use Rattle.feature_expr.specs.declared.token.Token.{Token}
 use Rattle.feature_expr.specs.declared.token.TokenKind.{TokenKind}
 use Rattle.feature_expr.specs.declared.token.TokenKind.TheVariants as token_kind
+use Rattle.vschema.specs.Limits.{deepest_nesting}
 use Rattle.vschema.specs.Words.{stands, name_of, name_of_kind, name_at}
 use Rattle.vschema.specs.Spelling.{IsExpression}
 use Rattle.vschema.specs.Faults.{fault_of}
 use Rattle.vschema.specs.CatalogueGrammar.{Form, fitting, outer, Expression, Goes, IsViable, IsFirstFault, IsViableFault, FEATURES, Names, ModelLine, Entries}
-use Rattle.vschema.specs.declared.parse.TheConstants.{NESTING_LIMIT}
 use Rattle.vschema.specs.declared.words.Sign.{Sign}
 use Rattle.vschema.specs.declared.words.Sign.TheVariants as sign
 
@@ -95,7 +95,7 @@ module _ (text : List ℕ) where
   two_marks one other None apart is is' = cc is
 
 abbrev pub grammar : Part → List Form
-grammar = forms outer NESTING_LIMIT
+grammar = forms outer deepest_nesting
 
 module _ (text : List ℕ) (tokens : List Token) where
   abbrev pub token_fits : Mark → ℕ → Type 0
@@ -285,7 +285,7 @@ module _ (text : List ℕ) (tokens : List Token) where
   -- behind an expression
   pub expression_ends : (names : List (List ℕ)) (nesting at end : ℕ) (expr : Expr) (symbols : Form) → IsExpression names text tokens nesting at expr end → IsFree grammar token_fits (signs_of (Disjunction nesting)) symbols → Stands (Expression nesting ∷ symbols) at → Stands symbols end
   expression_ends names nesting at end expr symbols is free s =
-      let l = is.read outer (fitting text tokens) NESTING_LIMIT (omega arith) in
+      let l = is.read outer (fitting text tokens) deepest_nesting (omega arith) in
       record {
         on = λ to later v. l.on symbols to free later (s.on to (omega (arith, l.order, later)) v);
         back = λ to m. s.back to (l.back symbols to m);
@@ -297,8 +297,8 @@ module _ (text : List ℕ) (tokens : List Token) where
     never = λ to later v. f.never symbols to free later (s.on to (omega (arith, f.reaches.order, later)) v);
   }
 
-  pub expression_refused : (names : List (List ℕ)) (nesting at : ℕ) (inner : Fault) (symbols : Form) → IsRefused names text tokens NESTING_LIMIT (Disjunction nesting) at inner → IsFree grammar token_fits (signs_of (Disjunction nesting)) symbols → Stands (Expression nesting ∷ symbols) at → IsViableFault text tokens (fault_of inner)
-  expression_refused names nesting at (expr_fault.Syntax place) symbols r free s = fault_in nesting at place symbols free (r outer (fitting text tokens) NESTING_LIMIT (omega arith)) s
+  pub expression_refused : (names : List (List ℕ)) (nesting at : ℕ) (inner : Fault) (symbols : Form) → IsRefused names text tokens deepest_nesting (Disjunction nesting) at inner → IsFree grammar token_fits (signs_of (Disjunction nesting)) symbols → Stands (Expression nesting ∷ symbols) at → IsViableFault text tokens (fault_of inner)
+  expression_refused names nesting at (expr_fault.Syntax place) symbols r free s = fault_in nesting at place symbols free (r outer (fitting text tokens) deepest_nesting (omega arith)) s
   expression_refused names nesting at (expr_fault.TooDeep place) symbols r free s = fault_in nesting at place symbols free (r.0 outer (fitting text tokens)) s
   expression_refused names nesting at (expr_fault.UnknownFeature place) symbols r free s = s.back (place + 1) ((r.0 outer (fitting text tokens)).viable symbols)
   expression_refused names nesting at expr_fault.Memory symbols r free s = tt

@@ -3,10 +3,10 @@ use Rattle.std.specs.Prelude.{Bool, false, ℕ, ◌+◌, ◌<◌, ◌==◌, if�
 use Rattle.feature_expr.specs.Grammar.{Symbol, Terminal, Nonterminal, Matches}
 use Rattle.feature_expr.specs.ExprGrammar.{Part, Mark, Outer, Foreign, Disjunction, forms, fits}
 use Rattle.feature_expr.specs.declared.token.Token.{Token}
+use Rattle.vschema.specs.Limits.{deepest_nesting}
 use Rattle.vschema.specs.Words.{stands, name_at, kind_at, value_at}
 use Rattle.vschema.specs.declared.fault.CatalogFault.{CatalogFault}
 use Rattle.vschema.specs.declared.fault.CatalogFault.TheVariants as fault
-use Rattle.vschema.specs.declared.parse.TheConstants.{NESTING_LIMIT}
 use Rattle.vschema.specs.declared.words.Sign.TheVariants as sign
 
 -- the signs, by their numbers: the words and signs that stand for themselves, a name, the name of a kind, a value and
@@ -119,7 +119,7 @@ outer number nesting =
 
 -- these open symbols match the tokens from one place to another
 abbrev pub Goes : List ℕ → List Token → Form → ℕ → ℕ → Type 0
-Goes text tokens symbols at to = Matches (forms outer NESTING_LIMIT) (fits (fitting text tokens) text tokens) symbols at to
+Goes text tokens symbols at to = Matches (forms outer deepest_nesting) (fits (fitting text tokens) text tokens) symbols at to
 
 -- so many tokens begin a catalogue. The end of the text counts as a token, so that one token more than there are make a
 -- whole one.

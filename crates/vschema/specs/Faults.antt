@@ -11,16 +11,14 @@ use Rattle.feature_expr.specs.declared.parse.Fault.TheVariants as expr_fault
 use Rattle.feature_expr.specs.declared.token.Token.{Token}
 use Rattle.feature_expr.specs.declared.value.Kind.{Kind}
 use Rattle.feature_expr.specs.declared.value.Value.{Value}
+use Rattle.vschema.specs.Limits.{most_tables, most_columns, deepest_nesting}
 use Rattle.vschema.specs.Words.{stands, name_at, folded_at, kind_at, value_at}
 use Rattle.vschema.specs.Spelling.{column_place, table_place, NewFeature, FeaturesBefore, IsHead, IsExpression, IsModel, IsWhen, NewColumn, IsColumn, ColumnsBefore, AreColumns, NewTable, has_value, NewCell, IsCell, CellsBefore, AreCells, IsTableName, EntriesTo}
 use Rattle.vschema.specs.declared.catalog.Column.{Column}
 use Rattle.vschema.specs.declared.catalog.OpeningRow.{OpeningRow}
 use Rattle.vschema.specs.declared.catalog.Table.{Table}
-use Rattle.vschema.specs.declared.columns.TheConstants.{COLUMN_LIMIT}
-use Rattle.vschema.specs.declared.tables.TheConstants.{TABLE_LIMIT}
 use Rattle.vschema.specs.declared.fault.CatalogFault.{CatalogFault}
 use Rattle.vschema.specs.declared.fault.CatalogFault.TheVariants as fault
-use Rattle.vschema.specs.declared.parse.TheConstants.{NESTING_LIMIT}
 use Rattle.vschema.specs.declared.refused.Which.TheVariants as which
 use Rattle.vschema.specs.declared.words.Sign.TheVariants as sign
 
@@ -40,7 +38,7 @@ IsSyntaxAt at _ cause = ⊥
 pub record ExpressionFault (names : List (List ℕ)) (text : List ℕ) (tokens : List Token) (nesting at : ℕ) (why : CatalogFault) : Type 0 where
   pub inner : Fault
   pub is : why ≡ fault_of inner
-  pub refused : IsRefused names text tokens NESTING_LIMIT (Disjunction nesting) at inner
+  pub refused : IsRefused names text tokens deepest_nesting (Disjunction nesting) at inner
   pub first : IsFirst names text tokens at inner
 
 -- at the name of a feature
@@ -77,7 +75,7 @@ pub data ColumnNameFault (text : List ℕ) (tokens : List Token) (columns : List
   column_name_memory : ColumnNameFault text tokens columns at fault.Memory
   no_column_name : folded_at text tokens at ≡ None → ColumnNameFault text tokens columns at (fault.Syntax at)
   column_again : (name : List ℕ) (place : ℕ) → folded_at text tokens at ≡ Some name → column_place name columns ≡ Some place → ColumnNameFault text tokens columns at (fault.Duplicate at)
-  one_column_more : (name : List ℕ) → folded_at text tokens at ≡ Some name → column_place name columns ≡ None → COLUMN_LIMIT ≤ length columns → ColumnNameFault text tokens columns at (fault.Limit at which.Columns)
+  one_column_more : (name : List ℕ) → folded_at text tokens at ≡ Some name → column_place name columns ≡ None → most_columns ≤ length columns → ColumnNameFault text tokens columns at (fault.Limit at which.Columns)
 
 -- in a column of a table
 pub data ColumnFault (names : List (List ℕ)) (text : List ℕ) (tokens : List Token) (columns : List Column) (at : ℕ) : CatalogFault → Type 0 where
@@ -97,7 +95,7 @@ pub data TableNameFault (text : List ℕ) (tokens : List Token) (tables : List T
   table_name_memory : TableNameFault text tokens tables at fault.Memory
   no_table_name : folded_at text tokens at ≡ None → TableNameFault text tokens tables at (fault.Syntax at)
   table_again : (name : List ℕ) (place : ℕ) → folded_at text tokens at ≡ Some name → table_place name tables ≡ Some place → TableNameFault text tokens tables at (fault.Duplicate at)
-  one_table_more : (name : List ℕ) → folded_at text tokens at ≡ Some name → table_place name tables ≡ None → TABLE_LIMIT ≤ length tables → TableNameFault text tokens tables at (fault.Limit at which.Tables)
+  one_table_more : (name : List ℕ) → folded_at text tokens at ≡ Some name → table_place name tables ≡ None → most_tables ≤ length tables → TableNameFault text tokens tables at (fault.Limit at which.Tables)
 
 -- in a table, from the word `table` on
 pub data TableFault (names : List (List ℕ)) (text : List ℕ) (tokens : List Token) (tables : List Table) (at : ℕ) : CatalogFault → Type 0 where

@@ -3,6 +3,7 @@ pub mod Faults
 pub mod Files
 pub mod Formed
 pub mod Gaps
+pub mod Limits
 pub mod Refusals
 pub mod Spelling
 pub mod Variants

@@ -10,16 +10,14 @@ use Rattle.feature_expr.specs.declared.expr.Expr.{Expr}
 use Rattle.feature_expr.specs.declared.expr.Expr as e
 use Rattle.feature_expr.specs.declared.token.Token.{Token}
 use Rattle.feature_expr.specs.declared.value.Value.{Value}
+use Rattle.vschema.specs.Limits.{most_tables, most_columns, deepest_nesting}
 use Rattle.vschema.specs.Words.{stands, name_at, folded_at, kind_at, value_at, line_number}
 use Rattle.vschema.specs.declared.catalog.Catalog.{Catalog}
 use Rattle.vschema.specs.declared.catalog.Column.{Column}
 use Rattle.vschema.specs.declared.catalog.OpeningRow.{OpeningRow}
 use Rattle.vschema.specs.declared.catalog.Table.{Table}
-use Rattle.vschema.specs.declared.columns.TheConstants.{COLUMN_LIMIT}
-use Rattle.vschema.specs.declared.tables.TheConstants.{TABLE_LIMIT}
 use Rattle.vschema.specs.declared.entries.Entry.{Entry}
 use Rattle.vschema.specs.declared.entries.Entry.TheVariants as entry
-use Rattle.vschema.specs.declared.parse.TheConstants.{NESTING_LIMIT}
 use Rattle.vschema.specs.declared.words.Sign.TheVariants as sign
 
 -- the number of the column, or of the table, that has a name
@@ -48,7 +46,7 @@ pub data IsHead (text : List ℕ) (tokens : List Token) : List (List ℕ) → �
 
 -- an expression, where so many brackets are open round it
 pub record IsExpression (names : List (List ℕ)) (text : List ℕ) (tokens : List Token) (nesting at : ℕ) (expr : Expr) (end : ℕ) : Type 0 where
-  pub read : IsRead text tokens NESTING_LIMIT (Disjunction nesting) at end
+  pub read : IsRead text tokens deepest_nesting (Disjunction nesting) at end
   pub spelled : Spells names text tokens (Disjunction nesting) at expr end
 
 -- the word `model`, the feature model and a semicolon; a missing model is `true`
@@ -72,7 +70,7 @@ pub record IsTail (names : List (List ℕ)) (text : List ℕ) (tokens : List Tok
 pub record NewColumn (text : List ℕ) (tokens : List Token) (columns : List Column) (at : ℕ) (name : List ℕ) : Type 0 where
   pub named : folded_at text tokens at ≡ Some name
   pub fresh : column_place name columns ≡ None
-  pub within : length columns < COLUMN_LIMIT
+  pub within : length columns < most_columns
 
 -- a column behind others: its name, its kind and its condition, inside a bracket
 pub record IsColumn (names : List (List ℕ)) (text : List ℕ) (tokens : List Token) (columns : List Column) (at : ℕ) (column : Column) (end : ℕ) : Type 0 where
@@ -101,7 +99,7 @@ pub record AreColumns (names : List (List ℕ)) (text : List ℕ) (tokens : List
 pub record NewTable (text : List ℕ) (tokens : List Token) (tables : List Table) (at : ℕ) (name : List ℕ) : Type 0 where
   pub named : folded_at text tokens at ≡ Some name
   pub fresh : table_place name tables ≡ None
-  pub within : length tables < TABLE_LIMIT
+  pub within : length tables < most_tables
 
 -- a table behind others, from the word `table` on
 pub record IsTable (names : List (List ℕ)) (text : List ℕ) (tokens : List Token) (tables : List Table) (at : ℕ) (table : Table) (end : ℕ) : Type 0 where
@@ -190,7 +188,7 @@ rows_with rows (entry.Row row) = rows ++ row ∷ []
 
 -- no table before it has an entry's name, and a table is within the limit
 abbrev pub IsFresh : List Table → Entry → Type 0
-IsFresh tables (entry.Table table) = (table_place table.name tables ≡ None) × (length tables < TABLE_LIMIT)
+IsFresh tables (entry.Table table) = (table_place table.name tables ≡ None) × (length tables < most_tables)
 IsFresh tables (entry.Row row) = Unit {0}
 
 -- tables and rows in the file's order, from one place up to another

@@ -13,8 +13,6 @@ mod parse_row;
 mod parse_table;
 mod refused;
 mod tables;
-#[cfg(test)]
-mod tests;
 mod words;
 
 pub use catalog::{Catalog, Column, OpeningRow, Table};

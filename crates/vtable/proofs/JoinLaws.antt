@@ -6,17 +6,17 @@ use Rattle.feature_expr.specs.declared.expr.Expr.{Expr, fold-Expr, out-Expr}
 use Rattle.feature_expr.specs.declared.expr.Expr as e
 use Rattle.feature_expr.specs.declared.expr.Expr.TheOpen.{Expr-F}
 use Rattle.feature_expr.specs.declared.expr.Expr.TheFolds.{fold_out-Expr}
-use Rattle.feature_expr.specs.Expressions.{weight_of, weight_step}
+use Rattle.feature_expr.specs.Expressions.{mentions, weight_of, weight_step}
 use Rattle.feature_expr.specs.Satisfaction.{satisfies}
 use Rattle.condition_sat.specs.Admitted.{IsAdmitted}
 use Rattle.vtable.specs.declared.group.Group.{Group}
 use Rattle.vtable.specs.declared.table.VRow.{VRow}
-use Rattle.vtable.specs.Disjunction.{any_holds, conds_cost}
+use Rattle.vtable.specs.Disjunction.{any_holds, any_mentions, conds_cost}
 use Rattle.vtable.specs.Possible.{can_hold, can_meet, always_holds, is_true}
 use Rattle.vtable.specs.TableForm.{settled, is_settled}
 use Rattle.vtable.specs.Passes.{IsJoined, AllJoined}
-use Rattle.vtable.proofs.PossibleLaws.{true_or_false, each_fails, some_admitted_same, some_admitted_of, none_admitted, admitted_of, or_left, or_right, and_first, both}
-use Rattle.vtable.proofs.DisjunctionLaws.{any_push, cost_push}
+use Rattle.vtable.proofs.PossibleLaws.{true_or_false, not_both, each_fails, some_admitted_same, some_admitted_of, none_admitted, admitted_of, or_left, or_right, and_first, both}
+use Rattle.vtable.proofs.DisjunctionLaws.{any_push, cost_push, mentions_push}
 
 step_pos : (x : Expr-F ℕ) → 1 ≤ weight_step x
 step_pos Expr-F.True = search rules
@@ -74,6 +74,17 @@ settled_weight model cond =
       | inr sometimes ↦ subst (λ n. n ≤ weight_of cond) (sym (ap weight_of (settled_else model cond sometimes))) (search rules)
     ]
 
+mentions_true : (i : ℕ) → mentions i e.True ≡ false
+mentions_true i = search (rules, e.the_lemmas)
+
+-- no other feature occurs in it
+pub settled_known : (model cond : Expr) (i : ℕ) → mentions i (settled model cond) ≡ true → mentions i cond ≡ true
+settled_known model cond i h =
+    elim (true_or_false (always_holds model cond)) [
+      | inl always ↦ absurd (not_both (mentions i e.True) (sym (ap (mentions i) (settled_always model cond always)) ∙ h) (mentions_true i))
+      | inr sometimes ↦ sym (ap (mentions i) (settled_else model cond sometimes)) ∙ h
+    ]
+
 -- conditions that agree in all admitted configurations can hold alike
 pub can_hold_same : (model one other : Expr) → ((c : List ℕ) → IsAdmitted model c → satisfies c one ≡ satisfies c other) → can_hold model one ≡ can_hold model other
 can_hold_same model one other same = some_admitted_same model (λ c. satisfies c one) (λ c. satisfies c other) same
@@ -102,6 +113,9 @@ or-swap false false = refl
 pub first_last : (c : List ℕ) (first : Expr) (more conds : List Expr) → conds ≡ more ++ first ∷ [] → any_holds c conds ≡ any_holds c (first ∷ more)
 first_last c first more conds is = ap (any_holds c) is ∙ any_push c more first ∙ or-swap (any_holds c more) (satisfies c first)
 
+pub first_last_known : (i : ℕ) (first : Expr) (more conds : List Expr) → conds ≡ more ++ first ∷ [] → any_mentions i conds ≡ any_mentions i (first ∷ more)
+first_last_known i first more conds is = ap (any_mentions i) is ∙ mentions_push i more first ∙ or-swap (any_mentions i more) (mentions i first)
+
 pub cost_cons : (first : Expr) (more : List Expr) → conds_cost (first ∷ more) ≡ weight_of first + 1 + conds_cost more
 cost_cons first more =
     let weights : sum_by weight_of (first ∷ more) ≡ weight_of first + sum_by weight_of more = sum_by-cons weight_of first more in
@@ -124,11 +138,12 @@ joined_one model group row alone cells cond = record {
       let same : weight_of row.cond ≡ weight_of group.first = ap weight_of cond in
       omega arith;
   settled = λ h. ap (is_settled model) cond ∙ h;
+  known = λ i h. or_left (mentions i group.first) (any_mentions i group.more) (sym (ap (mentions i) cond) ∙ h);
 }
 
 -- a group of several rows
-pub joined_more : (model : Expr) (group : Group) (row : VRow) (whole : Expr) → ((c : List ℕ) → satisfies c whole ≡ any_holds c (group.first ∷ group.more)) → weight_of whole + 1 ≤ conds_cost (group.first ∷ group.more) → row.cells ≡ group.cells → row.cond ≡ settled model whole → IsJoined model group row
-joined_more model group row whole holds cost cells cond = record {
+pub joined_more : (model : Expr) (group : Group) (row : VRow) (whole : Expr) → ((c : List ℕ) → satisfies c whole ≡ any_holds c (group.first ∷ group.more)) → weight_of whole + 1 ≤ conds_cost (group.first ∷ group.more) → ((i : ℕ) → mentions i whole ≡ true → any_mentions i (group.first ∷ group.more) ≡ true) → row.cells ≡ group.cells → row.cond ≡ settled model whole → IsJoined model group row
+joined_more model group row whole holds cost known cells cond = record {
   cells = cells;
   holds = λ c admitted. ap (satisfies c) cond ∙ settled_holds model whole c admitted ∙ holds c;
   cost =
@@ -138,6 +153,7 @@ joined_more model group row whole holds cost cells cond = record {
   settled = λ h.
       let found = admitted_of model (λ c. satisfies c group.first) (and_first _ _ h) in
       ap (is_settled model) cond ∙ settled_is model whole (some_admitted_of model (λ c. satisfies c whole) found.config found.admitted (holds found.config ∙ or_left _ _ found.has));
+  known = λ i h. known i (settled_known model whole i (sym (ap (mentions i) cond) ∙ h));
 }
 
 pub joined_push : (model : Expr) (groups : List Group) (rows : List VRow) (group : Group) (row : VRow) → AllJoined model groups rows → IsJoined model group row → AllJoined model (groups ++ group ∷ []) (rows ++ row ∷ [])

@@ -7,6 +7,7 @@ pub mod EmptyLaws
 pub mod GroupLaws
 pub mod JoinLaws
 pub mod JoinedLaws
+pub mod MentionLaws
 pub mod NormalLaws
 pub mod PassLaws
 pub mod PlainLaws

@@ -7,7 +7,7 @@ use Rattle.std.proofs.lemmas.List.Sorted.{IsPermutation-map, list_any-IsPermutat
 use Rattle.feature_expr.specs.declared.column_name.ColName.{ColName}
 use Rattle.feature_expr.specs.declared.expr.Expr.{Expr}
 use Rattle.feature_expr.specs.declared.value.Value.{Value}
-use Rattle.feature_expr.specs.Expressions.{weight_of}
+use Rattle.feature_expr.specs.Expressions.{mentions, weight_of}
 use Rattle.feature_expr.specs.Satisfaction.{satisfies}
 use Rattle.condition_sat.specs.Admitted.{IsAdmitted}
 use Rattle.plain_relation.specs.Relations.{SameRelation, HasRow, Cell, relation_with, columns_of, row_of, cell_of}
@@ -17,12 +17,13 @@ use Rattle.vtable.specs.declared.table.VColumn.{VColumn}
 use Rattle.vtable.specs.declared.table.VRow.{VRow}
 use Rattle.vtable.specs.declared.table.VTable.{VTable}
 use Rattle.vtable.specs.Answers.{column_at, fits, answer_at, IsAnswerAt}
-use Rattle.vtable.specs.TableForm.{same_cells, stands, has_cell, is_settled, is_row_formed, column_staying, columns_staying, columns_are_distinct, cut_cells, cut_row, rows_weight, IsNormalOf}
+use Rattle.vtable.specs.TableForm.{same_cells, stands, has_cell, is_settled, is_row_formed, column_staying, columns_staying, columns_are_distinct, cut_cells, cut_row, rows_mention, rows_weight, IsNormalOf}
 use Rattle.vtable.specs.Passes.{row_staying, staying, table_row, groups_after, is_in_order, AllJoined}
 use Rattle.vtable.proofs.AnswerLaws.{answer_after}
 use Rattle.vtable.proofs.CellLaws.{same_cells_are, same_cells_self}
 use Rattle.vtable.proofs.CutLaws.{staying_is, columns_are_settled, staying_are_distinct, same_columns, same_row, some_cell}
 use Rattle.vtable.proofs.JoinedLaws.{rows_do_ascend, joined_stand, joined_cost, joined_length, rows_are_formed, all_permuted}
+use Rattle.vtable.proofs.MentionLaws.{all_groups_mention, joined_known, kept_known}
 use Rattle.vtable.proofs.PossibleLaws.{true_or_false, both, and_first, and_second, or_left, or_right, or_cases}
 use Rattle.vtable.proofs.RowsLaws.{all_groups_stand, rows_cost, groups_cost, rows_cost_is, all_groups_weigh, fewer_groups, choice_true, choice_false}
 use Rattle.vtable.proofs.StayingLaws.{kept, all_kept, kept_stand, is_filled, is_long, kept_formed, kept_cost, kept_fewer, filled_here}
@@ -201,6 +202,15 @@ module _ (model : Expr) (before after : VTable) (made : Made model before after)
       let fewer : length rows_kept ≤ length made.moved = kept_fewer model before.columns made.moved in
       (omega arith, omega arith)
 
+  rows_known : (i : ℕ) → rows_mention i after.rows ≡ true → rows_mention i before.rows ≡ true
+  rows_known i h =
+      let test : VRow → Bool = λ row. mentions i row.cond in
+      list_any-IsPermutation test before.rows made.moved made.rows_moved
+      ∙ kept_known model before.columns i made.moved
+      (list_any-IsPermutation test rows_kept rows_sorted kept_sorted
+      ∙ sym (all_groups_mention i rows_sorted)
+      ∙ joined_known model i _ after.rows made.joined h)
+
 -- the passes give the table form
 pub normal_is : (model : Expr) (before after : VTable) → Made model before after → columns_are_distinct before.columns ≡ true → ((c : List ℕ) → IsAdmitted model c → IsAnswerAt c before) → IsNormalOf model before after
 normal_is model before after made distinct answers =
@@ -220,4 +230,5 @@ normal_is model before after made distinct answers =
       same = λ c admitted. same_relation model before after c admitted columns (list_of_filled c before.columns before.rows (answers c admitted).filled) (rows_stand model before after made c admitted);
       fewer = weighed.1;
       lighter = omega arith;
+      known = rows_known model before after made;
     }

@@ -35,10 +35,10 @@ pub all_kept : (model : Expr) (columns : List VColumn) (rows : List VRow) → fi
 all_kept model columns [] = refl
 all_kept model columns (row ∷ rows) = ap₂ cons_option (kept_is model columns row) (all_kept model columns rows)
 
-row_kept : (model : Expr) (columns : List VColumn) (row : VRow) (rows : List VRow) → (can_hold model row.cond && has_cell (cut_cells model row.cond columns row.cells)) ≡ true → filter_map (kept model columns) (row ∷ rows) ≡ record { cells = cut_cells model row.cond columns row.cells; cond = settled model row.cond } ∷ filter_map (kept model columns) rows
+pub row_kept : (model : Expr) (columns : List VColumn) (row : VRow) (rows : List VRow) → (can_hold model row.cond && has_cell (cut_cells model row.cond columns row.cells)) ≡ true → filter_map (kept model columns) (row ∷ rows) ≡ record { cells = cut_cells model row.cond columns row.cells; cond = settled model row.cond } ∷ filter_map (kept model columns) rows
 row_kept model columns row rows stays = ap (λ x. cons_option x (filter_map (kept model columns) rows)) (choice_true _ _ _ stays)
 
-row_gone : (model : Expr) (columns : List VColumn) (row : VRow) (rows : List VRow) → (can_hold model row.cond && has_cell (cut_cells model row.cond columns row.cells)) ≡ false → filter_map (kept model columns) (row ∷ rows) ≡ filter_map (kept model columns) rows
+pub row_gone : (model : Expr) (columns : List VColumn) (row : VRow) (rows : List VRow) → (can_hold model row.cond && has_cell (cut_cells model row.cond columns row.cells)) ≡ false → filter_map (kept model columns) (row ∷ rows) ≡ filter_map (kept model columns) rows
 row_gone model columns row rows gone = ap (λ x. cons_option x (filter_map (kept model columns) rows)) (choice_false _ _ _ gone)
 
 and-false : (b : Bool) → (b && false) ≡ false

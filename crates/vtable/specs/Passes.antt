@@ -1,14 +1,14 @@
 -- What the passes make of columns and rows, one after another.
-use Rattle.std.specs.Prelude.{Bool, true, false, not, ◌≡◌, ◌&&◌, ◌++◌, ◌+◌, ◌≤◌, ℕ, List, [], ◌∷◌, map, Option, Some, None, if◌then◌else◌}
+use Rattle.std.specs.Prelude.{Bool, true, false, not, IsTrue, ◌≡◌, ◌&&◌, ◌++◌, ◌+◌, ◌≤◌, ℕ, List, [], ◌∷◌, map, Option, Some, None, if◌then◌else◌}
 use Rattle.std.specs.List.{filter_map}
 use Rattle.std.specs.Ordering.{is_lt}
 use Rattle.feature_expr.specs.declared.expr.Expr.{Expr}
 use Rattle.feature_expr.specs.declared.expr.Expr as e
 use Rattle.feature_expr.specs.declared.value.Value.{Value}
 use Rattle.condition_sat.specs.Admitted.{IsAdmitted}
-use Rattle.feature_expr.specs.Expressions.{weight_of}
+use Rattle.feature_expr.specs.Expressions.{mentions, weight_of}
 use Rattle.feature_expr.specs.Satisfaction.{satisfies}
-use Rattle.vtable.specs.Disjunction.{any_holds, conds_cost}
+use Rattle.vtable.specs.Disjunction.{any_holds, any_mentions, conds_cost}
 use Rattle.vtable.specs.Possible.{can_hold, can_meet}
 use Rattle.vtable.specs.TableForm.{settled, is_settled, has_cell, cells_cmp, same_cells}
 use Rattle.vtable.specs.declared.decision.Decision.{Decision}
@@ -81,12 +81,13 @@ abbrev pub group_rows : Group → List VRow
 group_rows group = map (λ (cond : Expr). record { cells = group.cells; cond = cond }) (group.first ∷ group.more)
 
 -- The one row of a group: it has the group's cells, it is there where one of the group's rows is, its condition weighs
--- at most one more for each row but the first, and is settled where the first row's is.
+-- at most one more for each row but the first, is settled where the first row's is, and mentions what the group's do.
 pub record IsJoined (model : Expr) (group : Group) (row : VRow) : Type 0 where
   pub cells : row.cells ≡ group.cells
   pub holds : (c : List ℕ) → IsAdmitted model c → satisfies c row.cond ≡ any_holds c (group.first ∷ group.more)
   pub cost : weight_of row.cond + 1 ≤ conds_cost (group.first ∷ group.more)
   pub settled : is_settled model group.first ≡ true → is_settled model row.cond ≡ true
+  pub known : (i : ℕ) → IsTrue (mentions i row.cond) → IsTrue (any_mentions i (group.first ∷ group.more))
 
 abbrev pub AllJoined : Expr → List Group → List VRow → Type 0
 AllJoined model [] [] = Unit {0}

@@ -1,5 +1,5 @@
 -- The one table in which an answer is given, and what becomes of a table that is brought into this form.
-use Rattle.std.specs.Prelude.{Bool, true, false, not, ◌≡◌, ◌≤◌, ◌+◌, ◌&&◌, ◌||◌, ℕ, List, [], ◌∷◌, map, length, Option, Some, None, is_some, if◌then◌else◌}
+use Rattle.std.specs.Prelude.{Bool, true, false, not, IsTrue, ◌≡◌, ◌≤◌, ◌+◌, ◌&&◌, ◌||◌, ℕ, List, [], ◌∷◌, map, length, Option, Some, None, is_some, if◌then◌else◌}
 use Rattle.std.specs.List.{list_all, list_any, filter_map, sum_by}
 use Rattle.std.specs.Option.{option_cmp}
 use Rattle.std.specs.Ordering.{is_lt, is_eq, nat_cmp, int_cmp}
@@ -7,7 +7,7 @@ use Rattle.std.specs.declared.cmp.Ordering.{Ordering}
 use Rattle.std.specs.declared.cmp.Ordering.TheVariants.{Less, Greater}
 use Rattle.std.specs.Cmp.Lexicographic.{slice_cmp}
 use Rattle.std.proofs.Math.Bool.{beq}
-use Rattle.feature_expr.specs.Expressions.{weight_of}
+use Rattle.feature_expr.specs.Expressions.{mentions, weight_of}
 use Rattle.feature_expr.specs.Satisfaction.{satisfies}
 use Rattle.feature_expr.specs.declared.expr.Expr.{Expr}
 use Rattle.feature_expr.specs.declared.expr.Expr as e
@@ -113,6 +113,10 @@ cut_row model columns row = record { cells = cut_cells model row.cond columns ro
 abbrev pub rows_weight : List VRow → ℕ
 rows_weight rows = sum_by (λ (row : VRow). weight_of row.cond) rows
 
+-- whether a feature occurs in the condition of a row
+abbrev pub rows_mention : ℕ → List VRow → Bool
+rows_mention feature rows = list_any (λ (row : VRow). mentions feature row.cond) rows
+
 -- whether, among the rows that are there in the variant, one has these cells
 abbrev pub stands : List ℕ → List (Option Value) → List VRow → Bool
 stands c cells rows = list_any (λ (row : VRow). satisfies c row.cond && same_cells row.cells cells) rows
@@ -120,8 +124,8 @@ stands c cells rows = list_any (λ (row : VRow). satisfies c row.cond && same_ce
 -- What a table is in table form. The columns that stay keep their order, and their condition or `true`. A list of cells
 -- is there, in an admitted configuration, exactly where it has a cell and a row that is there is cut to it: since
 -- no list of cells stands twice, its condition is the disjunction of those of the rows that had it. In each admitted
--- configuration it is a well-formed answer, and the same relation as before. It has no more rows than before, and their conditions weigh at most
--- one more for each row.
+-- configuration it is a well-formed answer, and the same relation as before. It has no more rows than before, and their
+-- conditions weigh at most one more for each row, and mention no feature that no row's condition mentioned.
 pub record IsNormalOf (model : Expr) (before after : VTable) : Type 0 where
   pub form : IsTableForm model after
   pub columns : after.columns ≡ columns_staying model before.columns
@@ -130,3 +134,4 @@ pub record IsNormalOf (model : Expr) (before after : VTable) : Type 0 where
   pub same : (c : List ℕ) → IsAdmitted model c → SameRelation (answer_at c after) (answer_at c before)
   pub fewer : length after.rows ≤ length before.rows
   pub lighter : rows_weight after.rows ≤ rows_weight before.rows + length before.rows
+  pub known : (i : ℕ) → IsTrue (rows_mention i after.rows) → IsTrue (rows_mention i before.rows)

@@ -1,7 +1,7 @@
-ghost use Rattle.std.specs.Prelude.{◌≡◌, ◌≤◌, ◌+◌, ◌∷◌, ℕ, List as Items, IfOk};
-ghost use Rattle.feature_expr.specs.Expressions.{weight_of};
+ghost use Rattle.std.specs.Prelude.{◌≡◌, ◌≤◌, ◌+◌, ◌∷◌, ℕ, List as Items, IsTrue, IfOk};
+ghost use Rattle.feature_expr.specs.Expressions.{mentions, weight_of};
 ghost use Rattle.feature_expr.specs.Satisfaction.{satisfies};
-ghost use Rattle.vtable.specs.Disjunction.{any_holds, conds_cost};
+ghost use Rattle.vtable.specs.Disjunction.{any_holds, any_mentions, conds_cost};
 ghost use Rattle.vtable.specs.Passes.{IsJoined, AllJoined};
 
 use crate::columns::settled_cond;
@@ -12,8 +12,8 @@ use condition_sat::Model;
 use feature_expr::{Expr, List, Memory};
 use std::alloc::Global;
 
-#[tactic(auto, using(crate::proofs::JoinLaws::joined_push))]
 /// One row for each group.
+#[tactic(auto, using(crate::proofs::JoinLaws::joined_push))]
 pub fn joined_rows(alloc: Global, model: &Model, groups: Vec<Group>) -> Result<List<VRow>, Memory>
     ensures { IfOk result (λ rows. AllJoined model.now groups.items rows) }
 {
@@ -41,6 +41,7 @@ fn joined(alloc: Global, model: &Model, group: Group) -> Result<VRow, Memory>
 fn joined_conds(alloc: Global, first: Expr, more: List<Expr>) -> Result<Expr, Memory>
     ensures holds { IfOk result (λ whole. (c : Items ℕ) → satisfies c whole ≡ any_holds c (first ∷ more)) }
     ensures weight { IfOk result (λ whole. weight_of whole + 1 ≤ conds_cost (first ∷ more)) }
+    ensures known { IfOk result (λ whole. (i : ℕ) → IsTrue (mentions i whole) → IsTrue (any_mentions i (first ∷ more))) }
 {
     let mut conds = more.into_vec();
     conds.push(first)?;

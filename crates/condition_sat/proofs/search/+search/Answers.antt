@@ -1,4 +1,5 @@
 use Rattle.std.proofs.Common.{arith}
+use Rattle.condition_sat.specs.Search.{admits_all}
 use Rattle.condition_sat.proofs.Splits.{fewer_holding, fewer_without, none_of_both}
 use Rattle.condition_sat.proofs.search.+search.Goals as goal
 
@@ -14,7 +15,7 @@ search-requires-in-None t c =
 
 pub returns-in-None-clause-none : goal.returns-in-None-clause-none
 returns-in-None-clause-none t c =
-    none_of_both _ _ _ _ _ c.search-in-None.result
+    none_of_both (admits_all c.args.model.now c.args.asked.now) _ _ _ _ c.search-in-None.result
     (record { held = c.holding.ensures.held; lacking = c.holding.ensures.lacking })
     (record { held = c.without.ensures.held; lacking = c.without.ensures.lacking })
     c.in-None.ensures.none c.search-in-None.ensures.none
