@@ -4,6 +4,7 @@ pub mod ConfigBits
 pub mod ExprLaws
 pub mod FaultLaws
 pub mod FeatureLists
+pub mod FewestLaws
 pub mod KnownLaws
 pub mod NameLaws
 pub mod NegationLaws

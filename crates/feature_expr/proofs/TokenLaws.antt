@@ -105,6 +105,11 @@ scanned_goes text at within =
     let next = slice_index text (at + 1) in
     goes_if text at (starts_word first) _ _ (λ h. word_goes text at within h) (λ _. goes_if text at (is_ascii_digit first) _ _ (λ h. digits_go text at at false (omega arith) within h) (λ _. goes_if text at (first == 45) _ _ (λ _. goes_if text at (is_ascii_digit next) _ _ (λ h. negative_goes text at h) (λ _. goes_fault text at within)) (λ _. goes_if text at (first == 39) _ _ (λ _. quoted_goes text at within (closing_at text (at + 1)) refl) (λ _. goes_if text at (first == 36) _ _ (λ _. goes_if text at (is_ascii_digit next && not (next == 48)) _ _ (λ h. parameter_goes text at (and_first (is_ascii_digit next) (not (next == 48)) h)) (λ _. goes_fault text at within)) (λ _. sign_goes text at within)))))
 
+-- a token ends behind its beginning
+pub scanned_behind : (text : List ℕ) (at : ℕ) → at < length text → at < (scanned_at text at).end
+unfolding Goes
+scanned_behind text at within = (scanned_goes text at within).0
+
 comment_blank : (a b : Bool) (bytes : List ℕ) → blanks true bytes ≤ length bytes → blanks false bytes ≤ length bytes → (if a then 1 + blanks true bytes else (if b then 1 + blanks false bytes else 0)) ≤ suc (length bytes)
 comment_blank true b bytes h g = omega (arith, h)
 comment_blank false true bytes h g = omega (arith, g)
@@ -144,7 +149,7 @@ stand_next text at within rest =
     let kept = behind (scanned_at text at).kind text (blank_end text (scanned_at text at).end) rest in
     record { tokens = token_at text at ∷ kept.0; stand = (within, refl, kept.1) }
 
-blank_behind : (text : List ℕ) (at : ℕ) → at ≤ blank_end text at
+pub blank_behind : (text : List ℕ) (at : ℕ) → at ≤ blank_end text at
 unfolding blank_end
 blank_behind text at = omega arith
 

@@ -1,10 +1,13 @@
 -- The text of an expression, with single spaces and the fewest brackets.
-use Rattle.std.specs.Prelude.{ℕ, ◌+◌, ◌<◌, max, IsTrue, length, Bool, true, false, List, [], ◌++◌, codes, slice_get, unwrap_or}
+use Rattle.std.specs.Prelude.{ℕ, ◌+◌, ◌<◌, max, IsTrue, length, Bool, true, false, List, [], ◌++◌, codes, Some, slice_get, unwrap_or}
+use Rattle.std.specs.List.{filter}
 use Rattle.feature_expr.specs.declared.expr.Expr.{Expr, fold-Expr}
 use Rattle.feature_expr.specs.declared.expr.Expr.TheOpen.{Expr-F}
 use Rattle.feature_expr.specs.Expressions.{mentions}
 use Rattle.feature_expr.specs.declared.print.Position.{Position}
 use Rattle.feature_expr.specs.declared.print.Position.TheVariants as position
+use Rattle.feature_expr.specs.declared.token.Token.{Token}
+use Rattle.feature_expr.specs.Tokens.{is_mark_of_text}
 
 -- whether a chain of `and` stands there without brackets
 abbrev pub takes_and : Position → Bool
@@ -73,3 +76,10 @@ text_nesting e = nesting_at e position.Disjunct
 -- each feature that occurs has a name
 abbrev pub HasNames : List (List ℕ) → Expr → Type 0
 HasNames names expr = (i : ℕ) → IsTrue (mentions i expr) → i < length names
+
+abbrev pub is_opening : List ℕ → Token → Bool
+is_opening text token = is_mark_of_text text (codes "(") (Some token)
+
+-- how many of the tokens are opening brackets
+abbrev pub open_brackets : List ℕ → List Token → ℕ
+open_brackets text tokens = length (filter (is_opening text) tokens)

@@ -8,7 +8,7 @@ ghost use Rattle.feature_expr.specs.declared.token.TheConstants.{PARAMETER_LIMIT
 ghost use Rattle.feature_expr.specs.declared.token.Token.{Token};
 ghost use Rattle.feature_expr.specs.ExprTexts.{IsText, IsRefusedText};
 ghost use Rattle.feature_expr.specs.Names.{refusal, reserved_words};
-ghost use Rattle.feature_expr.specs.Printing.{HasNames, text_nesting, text_of};
+ghost use Rattle.feature_expr.specs.Printing.{HasNames, text_nesting, text_of, open_brackets};
 ghost use Rattle.feature_expr.specs.Tokens.{AreTokens, HasTokens};
 
 /// Laws of texts and their expressions. The call itself does nothing.
@@ -29,4 +29,6 @@ pub fn expression_laws()
     ensures printed { (names : List (List ℕ)) (most : ℕ) (expr : Expr) → refusal names ≡ None → HasNames names expr → text_nesting expr ≤ most → IsText names (text_of names expr) most expr }
     // What is read within a limit is printed within it.
     ensures again { (names : List (List ℕ)) (text : List ℕ) (most : ℕ) (expr : Expr) → refusal names ≡ None → IsText names text most expr → IsText names (text_of names expr) most expr }
+    // No text of an expression has fewer brackets than the printed one.
+    ensures fewest { (names : List (List ℕ)) (text : List ℕ) (most : ℕ) (expr : Expr) (tokens printed : List Token) → refusal names ≡ None → IsText names text most expr → AreTokens text tokens → AreTokens (text_of names expr) printed → open_brackets (text_of names expr) printed ≤ open_brackets text tokens }
 {}

@@ -1,4 +1,5 @@
 use Rattle.feature_expr.proofs.FaultLaws.{one_refusal}
+use Rattle.feature_expr.proofs.FewestLaws.{fewest}
 use Rattle.feature_expr.proofs.NestingLaws.{nests_within}
 use Rattle.feature_expr.proofs.OccurringLaws.{names_spelled}
 use Rattle.feature_expr.specs.ExprGrammar.{Disjunction}
@@ -27,3 +28,6 @@ returns-clause-again c = λ names text most expr none t. returns-clause-printed 
 
 pub returns-clause-one_fault : goal.returns-clause-one_fault
 returns-clause-one_fault c = one_refusal
+
+pub returns-clause-fewest : goal.returns-clause-fewest
+returns-clause-fewest c = λ names text most expr tokens printed good. fewest names good text most expr tokens printed
