@@ -10,7 +10,6 @@ mod group;
 mod join;
 mod out_table;
 mod plain;
-mod possible;
 mod same;
 mod table;
 #[cfg(test)]
@@ -19,5 +18,4 @@ mod tests;
 pub use configured::configure;
 pub use out_table::{OutTable, normal};
 pub use plain::{Plain, PlainColumn};
-pub use possible::can_hold_means;
 pub use table::{VColumn, VRow, VTable};
