@@ -1,4 +1,5 @@
 pub mod Admitted
 pub mod Asked
+pub mod Possible
 pub mod Samples
 pub mod Search

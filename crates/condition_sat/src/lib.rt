@@ -5,8 +5,10 @@
 
 mod asked;
 mod model;
+mod possible;
 mod samples;
 mod search;
 
 pub use asked::Asked;
 pub use model::Model;
+pub use possible::{holds_always, holds_somewhere, meet_somewhere, possible_laws, settled_cond};

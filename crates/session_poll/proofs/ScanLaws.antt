@@ -33,7 +33,7 @@ use Rattle.vschema.specs.Variants.{has_column, opening_at, opening_database, tab
 use Rattle.vschema.specs.Variants as variants
 use Rattle.vtable.specs.Answers.{IsAnswerAt, answer_at}
 use Rattle.vtable.specs.Answers as answers
-use Rattle.vtable.specs.Possible.{can_hold, always_holds}
+use Rattle.condition_sat.specs.Possible.{can_hold, always_holds}
 use Rattle.vtable.specs.TableForm.{rows_weight, same_column, columns_are_distinct, columns_staying, IsNormalOf}
 use Rattle.vtable.specs.declared.table.VColumn.{VColumn}
 use Rattle.vtable.specs.declared.table.VRow.{VRow}

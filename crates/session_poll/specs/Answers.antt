@@ -12,7 +12,7 @@ use Rattle.vschema.specs.declared.catalog.Table.{Table}
 use Rattle.session_poll.specs.Scans.{is_of}
 use Rattle.vschema.specs.Variants.{bare_name, opening_database}
 use Rattle.vtable.specs.Answers.{answer_at, IsAnswerAt}
-use Rattle.vtable.specs.Possible.{can_hold}
+use Rattle.condition_sat.specs.Possible.{can_hold}
 use Rattle.vtable.specs.TableForm.{rows_weight, IsTableForm}
 use Rattle.vtable.specs.declared.table.VColumn.{VColumn}
 use Rattle.vtable.specs.declared.table.VTable.{VTable}

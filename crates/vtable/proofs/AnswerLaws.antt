@@ -15,11 +15,11 @@ use Rattle.vtable.specs.declared.table.VColumn.{VColumn}
 use Rattle.vtable.specs.declared.table.VRow.{VRow}
 use Rattle.vtable.specs.declared.table.VTable.{VTable}
 use Rattle.vtable.specs.Answers.{column_at, fits, same_kind, names_are_distinct, is_whole, IsAnswerAt}
-use Rattle.vtable.specs.Possible.{can_hold, can_meet}
-use Rattle.vtable.specs.TableForm.{same_cells, stands, has_cell, is_settled, cells_stand, is_row_formed, columns_staying, cut_cells, cut_row}
+use Rattle.condition_sat.specs.Possible.{can_hold, can_meet, is_settled}
+use Rattle.vtable.specs.TableForm.{same_cells, stands, has_cell, cells_stand, is_row_formed, columns_staying, cut_cells, cut_row}
 use Rattle.vtable.proofs.CellLaws.{same_cells_are, same_cells_self}
 use Rattle.vtable.proofs.CutLaws.{one_stays, one_goes, cut_stays, cut_goes, settled_at, column_away, both_hold, same_columns, fits_rest}
-use Rattle.vtable.proofs.PossibleLaws.{true_or_false, both, and_first, and_second, or_left, or_right, or_cases}
+use Rattle.condition_sat.proofs.PossibleLaws.{true_or_false, both, and_first, and_second, or_left, or_right, or_cases}
 use Rattle.vtable.proofs.RowsLaws.{choice_true, choice_false}
 use Rattle.vtable.proofs.StayingLaws.{is_filled, filled_here}
 

@@ -27,7 +27,7 @@ use Rattle.vtable.specs.Configured.{plain_column, values_of, same_values, values
 use Rattle.vtable.specs.Passes.{cells_by, table_row, is_in_order, groups_after, group_of, with_cond}
 use Rattle.vtable.proofs.CellLaws.{same_cells_are}
 use Rattle.vtable.proofs.JoinedLaws.{all_permuted, all_groups_pass, group_passes, groups_from, groups_ascend, all_in_order}
-use Rattle.vtable.proofs.PossibleLaws.{true_or_false, both, and_first, and_second}
+use Rattle.condition_sat.proofs.PossibleLaws.{true_or_false, both, and_first, and_second}
 use Rattle.vtable.proofs.PlainLaws.{same_plain}
 use Rattle.vtable.proofs.RowsLaws.{choice_true, choice_false}
 

@@ -11,11 +11,11 @@ use Rattle.plain_relation.specs.Relations as plain
 use Rattle.vtable.specs.declared.decision.Fate.TheVariants as fate
 use Rattle.vtable.specs.declared.table.VColumn.{VColumn}
 use Rattle.vtable.specs.Answers.{column_at, fits}
-use Rattle.vtable.specs.Possible.{can_hold, can_meet}
-use Rattle.vtable.specs.TableForm.{has_cell, is_settled, settled, settled_column, column_staying, columns_staying, columns_are_distinct, same_column, cut_cells}
+use Rattle.condition_sat.specs.Possible.{can_hold, can_meet, is_settled, settled}
+use Rattle.vtable.specs.TableForm.{has_cell, settled_column, column_staying, columns_staying, columns_are_distinct, same_column, cut_cells}
 use Rattle.vtable.specs.Passes.{staying, fate_of, cells_by, cell_by}
-use Rattle.vtable.proofs.JoinLaws.{settled_holds, settled_is}
-use Rattle.vtable.proofs.PossibleLaws.{true_or_false, both, and_first, and_second, or_left, or_right, some_admitted_of, some_admitted_same, each_fails}
+use Rattle.condition_sat.proofs.SettledLaws.{settled_holds, settled_is}
+use Rattle.condition_sat.proofs.PossibleLaws.{true_or_false, both, and_first, and_second, or_left, or_right, some_admitted_of, some_admitted_same, each_fails}
 use Rattle.vtable.proofs.RowsLaws.{choice_true, choice_false}
 
 -- ---- columns

@@ -13,7 +13,7 @@ use Rattle.vtable.specs.declared.group.Group.{Group}
 use Rattle.vtable.specs.declared.table.VRow.{VRow}
 use Rattle.vtable.specs.TableForm.{same_cells, cells_cmp, value_cmp}
 use Rattle.vtable.specs.Passes.{table_row, is_in_order, groups_after, group_of}
-use Rattle.vtable.proofs.PossibleLaws.{both}
+use Rattle.condition_sat.proofs.PossibleLaws.{both}
 
 -- a row of other cells ends the group
 pub apart_put : (groups new : List Group) (group : Group) (row : VRow) (rest : List VRow) → same_cells group.cells row.cells ≡ false → new ≡ groups ++ group ∷ [] → new ++ groups_after (Some (group_of row)) rest ≡ groups ++ groups_after (Some group) (row ∷ rest)

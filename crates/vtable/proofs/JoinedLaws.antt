@@ -18,11 +18,11 @@ use Rattle.vtable.specs.declared.group.Group.{Group}
 use Rattle.vtable.specs.declared.table.VColumn.{VColumn}
 use Rattle.vtable.specs.declared.table.VRow.{VRow}
 use Rattle.vtable.specs.Disjunction.{any_holds, conds_cost}
-use Rattle.vtable.specs.Possible.{can_meet}
-use Rattle.vtable.specs.TableForm.{same_cells, cells_cmp, stands, rows_ascend, is_row_formed, is_settled, cells_stand, has_cell}
+use Rattle.condition_sat.specs.Possible.{can_meet, is_settled}
+use Rattle.vtable.specs.TableForm.{same_cells, cells_cmp, stands, rows_ascend, is_row_formed, cells_stand, has_cell}
 use Rattle.vtable.specs.Passes.{is_in_order, groups_after, group_of, with_cond, group_rows, IsJoined, AllJoined}
 use Rattle.vtable.proofs.CellLaws.{same_cells_are, cells_ascend}
-use Rattle.vtable.proofs.PossibleLaws.{true_or_false, both, and_first, and_second, or_left, some_admitted_of, admitted_of, none_admitted, each_fails}
+use Rattle.condition_sat.proofs.PossibleLaws.{true_or_false, both, and_first, and_second, or_left, some_admitted_of, admitted_of, none_admitted, each_fails}
 use Rattle.vtable.proofs.RowsLaws.{group_stands, groups_cost, rows_cost, choice_true, choice_false}
 
 -- no row is before the one in front of it, the first not before these cells

@@ -11,6 +11,5 @@ pub mod MentionLaws
 pub mod NormalLaws
 pub mod PassLaws
 pub mod PlainLaws
-pub mod PossibleLaws
 pub mod RowsLaws
 pub mod StayingLaws

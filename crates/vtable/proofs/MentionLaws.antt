@@ -7,12 +7,12 @@ use Rattle.vtable.specs.declared.group.Group.{Group}
 use Rattle.vtable.specs.declared.table.VColumn.{VColumn}
 use Rattle.vtable.specs.declared.table.VRow.{VRow}
 use Rattle.vtable.specs.Disjunction.{any_mentions}
-use Rattle.vtable.specs.Possible.{can_hold}
-use Rattle.vtable.specs.TableForm.{rows_mention, same_cells, has_cell, cut_cells, settled}
+use Rattle.condition_sat.specs.Possible.{can_hold, settled}
+use Rattle.vtable.specs.TableForm.{rows_mention, same_cells, has_cell, cut_cells}
 use Rattle.vtable.specs.Passes.{groups_after, group_of, with_cond, AllJoined}
 use Rattle.vtable.proofs.DisjunctionLaws.{mentions_push}
-use Rattle.vtable.proofs.JoinLaws.{settled_known}
-use Rattle.vtable.proofs.PossibleLaws.{true_or_false, or_left, or_right, or_cases}
+use Rattle.condition_sat.proofs.SettledLaws.{settled_known}
+use Rattle.condition_sat.proofs.PossibleLaws.{true_or_false, or_left, or_right, or_cases}
 use Rattle.vtable.proofs.RowsLaws.{choice_true, choice_false}
 use Rattle.vtable.proofs.StayingLaws.{kept, row_kept, row_gone}
 

@@ -17,14 +17,15 @@ use Rattle.vtable.specs.declared.table.VColumn.{VColumn}
 use Rattle.vtable.specs.declared.table.VRow.{VRow}
 use Rattle.vtable.specs.declared.table.VTable.{VTable}
 use Rattle.vtable.specs.Answers.{column_at, fits, answer_at, IsAnswerAt}
-use Rattle.vtable.specs.TableForm.{same_cells, stands, has_cell, is_settled, is_row_formed, column_staying, columns_staying, columns_are_distinct, cut_cells, cut_row, rows_mention, rows_weight, IsNormalOf}
+use Rattle.vtable.specs.TableForm.{same_cells, stands, has_cell, is_row_formed, column_staying, columns_staying, columns_are_distinct, cut_cells, cut_row, rows_mention, rows_weight, IsNormalOf}
+use Rattle.condition_sat.specs.Possible.{is_settled}
 use Rattle.vtable.specs.Passes.{row_staying, staying, table_row, groups_after, is_in_order, AllJoined}
 use Rattle.vtable.proofs.AnswerLaws.{answer_after}
 use Rattle.vtable.proofs.CellLaws.{same_cells_are, same_cells_self}
 use Rattle.vtable.proofs.CutLaws.{staying_is, columns_are_settled, staying_are_distinct, same_columns, same_row, some_cell}
 use Rattle.vtable.proofs.JoinedLaws.{rows_do_ascend, joined_stand, joined_cost, joined_length, rows_are_formed, all_permuted}
 use Rattle.vtable.proofs.MentionLaws.{all_groups_mention, joined_known, kept_known}
-use Rattle.vtable.proofs.PossibleLaws.{true_or_false, both, and_first, and_second, or_left, or_right, or_cases}
+use Rattle.condition_sat.proofs.PossibleLaws.{true_or_false, both, and_first, and_second, or_left, or_right, or_cases}
 use Rattle.vtable.proofs.RowsLaws.{all_groups_stand, rows_cost, groups_cost, rows_cost_is, all_groups_weigh, fewer_groups, choice_true, choice_false}
 use Rattle.vtable.proofs.StayingLaws.{kept, all_kept, kept_stand, is_filled, is_long, kept_formed, kept_cost, kept_fewer, filled_here}
 

@@ -16,7 +16,7 @@ use Rattle.vtable.specs.TableForm.{value_cmp}
 use Rattle.vtable.specs.Configured.{plain_column, values_of, same_values, cells_of, relation_in}
 use Rattle.vtable.proofs.CellLaws.{value_is, then_first, then_second, is_equal, same_cells_self}
 use Rattle.vtable.proofs.NormalLaws.{same_with}
-use Rattle.vtable.proofs.PossibleLaws.{and_first, and_second, or_left, or_right, or_cases}
+use Rattle.condition_sat.proofs.PossibleLaws.{and_first, and_second, or_left, or_right, or_cases}
 
 values_equal : (one other : List Value) → slice_cmp value_cmp one other ≡ Equal → one ≡ other
 values_equal [] [] h = refl

@@ -14,7 +14,7 @@ use Rattle.vtable.specs.Passes.{groups_after, group_of, with_cond}
 use Rattle.vtable.proofs.CellLaws.{same_cells_are}
 use Rattle.vtable.proofs.DisjunctionLaws.{any_push, cost_push}
 use Rattle.vtable.proofs.JoinLaws.{cost_cons}
-use Rattle.vtable.proofs.PossibleLaws.{true_or_false}
+use Rattle.condition_sat.proofs.PossibleLaws.{true_or_false}
 
 -- whether a row of the group is there, and has these cells
 abbrev pub group_stands : List ℕ → List (Option Value) → Group → Bool

@@ -11,14 +11,14 @@ use Rattle.condition_sat.specs.Admitted.{IsAdmitted}
 use Rattle.vtable.specs.declared.table.VColumn.{VColumn}
 use Rattle.vtable.specs.declared.table.VRow.{VRow}
 use Rattle.vtable.specs.Answers.{column_at, fits}
-use Rattle.vtable.specs.Possible.{can_hold, can_meet}
-use Rattle.vtable.specs.TableForm.{same_cells, stands, has_cell, cells_stand, is_row_formed, settled, column_staying, columns_staying, cut_cells, cut_row}
+use Rattle.condition_sat.specs.Possible.{can_hold, can_meet, settled}
+use Rattle.vtable.specs.TableForm.{same_cells, stands, has_cell, cells_stand, is_row_formed, column_staying, columns_staying, cut_cells, cut_row}
 use Rattle.vtable.specs.Passes.{row_staying}
 use Rattle.vtable.proofs.CellLaws.{same_cells_are}
-use Rattle.vtable.proofs.JoinLaws.{settled_holds, settled_is, settled_weight}
+use Rattle.condition_sat.proofs.SettledLaws.{settled_holds, settled_is, settled_weight}
 use Rattle.vtable.proofs.JoinedLaws.{beq_self}
 use Rattle.vtable.proofs.CutLaws.{cut_is, meets_settled, settled_meets, one_stays, one_goes, cut_stays, cut_goes, column_there, fits_first, fits_rest}
-use Rattle.vtable.proofs.PossibleLaws.{true_or_false, both, and_first, and_second, some_admitted_of, admitted_of, not_both}
+use Rattle.condition_sat.proofs.PossibleLaws.{true_or_false, both, and_first, and_second, some_admitted_of, admitted_of, not_both}
 use Rattle.vtable.proofs.RowsLaws.{rows_cost, choice_true, choice_false}
 
 abbrev pub kept_as : Expr → VRow → List (Option Value) → Option VRow

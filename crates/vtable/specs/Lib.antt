@@ -2,5 +2,4 @@ pub mod Answers
 pub mod Configured
 pub mod Disjunction
 pub mod Passes
-pub mod Possible
 pub mod TableForm

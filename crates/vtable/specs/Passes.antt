@@ -6,11 +6,11 @@ use Rattle.feature_expr.specs.declared.expr.Expr.{Expr}
 use Rattle.feature_expr.specs.declared.expr.Expr as e
 use Rattle.feature_expr.specs.declared.value.Value.{Value}
 use Rattle.condition_sat.specs.Admitted.{IsAdmitted}
+use Rattle.condition_sat.specs.Possible.{can_hold, can_meet, settled, is_settled}
 use Rattle.feature_expr.specs.Expressions.{mentions, weight_of}
 use Rattle.feature_expr.specs.Satisfaction.{satisfies}
 use Rattle.vtable.specs.Disjunction.{any_holds, any_mentions, conds_cost}
-use Rattle.vtable.specs.Possible.{can_hold, can_meet}
-use Rattle.vtable.specs.TableForm.{settled, is_settled, has_cell, cells_cmp, same_cells}
+use Rattle.vtable.specs.TableForm.{has_cell, cells_cmp, same_cells}
 use Rattle.vtable.specs.declared.decision.Decision.{Decision}
 use Rattle.vtable.specs.declared.decision.Fate.{Fate}
 use Rattle.vtable.specs.declared.decision.Fate.TheVariants as fate

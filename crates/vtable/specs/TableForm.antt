@@ -10,13 +10,12 @@ use Rattle.std.proofs.Math.Bool.{beq}
 use Rattle.feature_expr.specs.Expressions.{mentions, weight_of}
 use Rattle.feature_expr.specs.Satisfaction.{satisfies}
 use Rattle.feature_expr.specs.declared.expr.Expr.{Expr}
-use Rattle.feature_expr.specs.declared.expr.Expr as e
 use Rattle.feature_expr.specs.declared.value.Value.{Value}
 use Rattle.feature_expr.specs.declared.value.Value.TheVariants as value
 use Rattle.condition_sat.specs.Admitted.{IsAdmitted}
+use Rattle.condition_sat.specs.Possible.{can_hold, can_meet, is_settled, settled}
 use Rattle.plain_relation.specs.Relations.{SameRelation, same_name}
 use Rattle.vtable.specs.Answers.{IsAnswerAt, answer_at, same_kind}
-use Rattle.vtable.specs.Possible.{can_hold, can_meet, always_holds, is_true}
 use Rattle.vtable.specs.declared.table.VColumn.{VColumn}
 use Rattle.vtable.specs.declared.table.VRow.{VRow}
 use Rattle.vtable.specs.declared.table.VTable.{VTable}
@@ -52,10 +51,6 @@ rows_ascend [] = true
 rows_ascend (row ∷ []) = true
 rows_ascend (row ∷ next ∷ rows) = is_lt (cells_cmp row.cells next.cells) && rows_ascend (next ∷ rows)
 
--- whether the condition can hold, and is `true` where it always does
-abbrev pub is_settled : Expr → Expr → Bool
-is_settled model cond = can_hold model cond && (not (always_holds model cond) || is_true cond)
-
 -- whether a cell is there exactly where the row's condition and the column's can hold together
 abbrev pub cells_stand : Expr → Expr → List VColumn → List (Option Value) → Bool
 cells_stand model cond [] [] = true
@@ -82,10 +77,6 @@ pub record IsTableForm (model : Expr) (table : VTable) : Type 0 where
 pub record IsFormed (table : VTable) : Type 0 where
   pub model : Expr
   pub form : IsTableForm model table
-
--- the condition `true` in place of one that always holds
-abbrev pub settled : Expr → Expr → Expr
-settled model cond = if always_holds model cond then e.True else cond
 
 abbrev pub settled_column : Expr → VColumn → VColumn
 settled_column model column = record { name = column.name; kind = column.kind; cond = settled model column.cond }

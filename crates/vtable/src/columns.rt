@@ -1,13 +1,12 @@
 ghost use Rattle.std.specs.Prelude.{◌≡◌, ◌++◌, map, IfOk, OnOk};
 ghost use Rattle.std.specs.Option.{option_to_list};
 ghost use Rattle.std.specs.List.{filter_map};
-ghost use Rattle.vtable.specs.TableForm.{settled, column_staying};
+ghost use Rattle.vtable.specs.TableForm.{column_staying};
 ghost use Rattle.vtable.specs.Passes.{staying};
 
-use crate::possible::{holds_always, holds_somewhere};
 use crate::table::VColumn;
-use condition_sat::Model;
-use feature_expr::{Expr, List, Memory};
+use condition_sat::{Model, holds_somewhere, settled_cond};
+use feature_expr::{List, Memory};
 use std::alloc::Global;
 
 /// For each column what it is in table form, or none where it doesn't stay.
@@ -35,17 +34,6 @@ fn decided_column(model: &Model, column: VColumn) -> Result<Option<VColumn>, Mem
     let VColumn { name, kind, cond } = column;
     let cond = settled_cond(model, cond)?;
     Ok(Some(VColumn { name, kind, cond }))
-}
-
-/// The constant `true` in place of a condition that always holds.
-pub fn settled_cond(model: &Model, cond: Expr) -> Result<Expr, Memory>
-    ensures { IfOk result (λ it. it ≡ settled model.now cond) }
-{
-    let always = holds_always(model, &cond)?;
-    if always {
-        return Ok(Expr::True);
-    }
-    Ok(cond)
 }
 
 /// The columns that stay.

@@ -2,13 +2,12 @@ ghost use Rattle.std.specs.Prelude.{◌≡◌, ◌++◌, ◌∷◌, true, map, r
 ghost use Rattle.feature_expr.specs.declared.expr.Expr.{Expr};
 ghost use Rattle.vtable.specs.declared.decision.Fate.{Fate};
 ghost use Rattle.vtable.specs.declared.table.VColumn.{VColumn};
-ghost use Rattle.vtable.specs.Possible.{can_hold, can_meet};
+ghost use Rattle.condition_sat.specs.Possible.{can_hold, can_meet};
 ghost use Rattle.vtable.specs.Passes.{IsDecision, fate_of, cells_by, cell_by, row_staying};
 ghost use Rattle.vtable.specs.TableForm.{has_cell};
 
-use crate::possible::{holds_always, holds_somewhere, meet_somewhere};
 use crate::table::{VColumn, VRow};
-use condition_sat::Model;
+use condition_sat::{Model, holds_always, holds_somewhere, meet_somewhere};
 use feature_expr::{Expr, List, Memory, TryCopy, Value, is_same_expr};
 use std::alloc::Global;
 

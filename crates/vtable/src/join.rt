@@ -4,11 +4,10 @@ ghost use Rattle.feature_expr.specs.Satisfaction.{satisfies};
 ghost use Rattle.vtable.specs.Disjunction.{any_holds, any_mentions, conds_cost};
 ghost use Rattle.vtable.specs.Passes.{IsJoined, AllJoined};
 
-use crate::columns::settled_cond;
 use crate::disjunction::disjunction;
 use crate::group::Group;
 use crate::table::VRow;
-use condition_sat::Model;
+use condition_sat::{Model, settled_cond};
 use feature_expr::{Expr, List, Memory};
 use std::alloc::Global;
 

@@ -10,7 +10,6 @@ mod group;
 mod join;
 mod out_table;
 mod plain;
-mod possible;
 mod table;
 #[cfg(test)]
 mod tests;
@@ -18,5 +17,4 @@ mod tests;
 pub use configured::configure;
 pub use out_table::{OutTable, normal};
 pub use plain::{Plain, PlainColumn};
-pub use possible::can_hold_means;
 pub use table::{VColumn, VRow, VTable};

@@ -1,4 +1,4 @@
-use Rattle.vtable.proofs.JoinLaws.{meets_true}
+use Rattle.condition_sat.proofs.SettledLaws.{meets_true}
 use Rattle.vtable.proofs.decision.meets_column.Goals as goal
 
 pub returns-in-True : goal.returns-in-True

@@ -1,5 +1,5 @@
-use Rattle.vtable.proofs.PossibleLaws.{some_admitted_of, admitted_of}
-use Rattle.vtable.proofs.possible.can_hold_means.Goals as goal
+use Rattle.condition_sat.proofs.PossibleLaws.{some_admitted_of, admitted_of}
+use Rattle.condition_sat.proofs.possible.possible_laws.Goals as goal
 
 pub returns-clause-held : goal.returns-clause-held
 returns-clause-held c = some_admitted_of

@@ -1,8 +1,9 @@
 -- Which conditions can hold, and which always hold, under a feature model. The definitions go through all
--- configurations, and nothing computes them: `can_hold_means` of the crate ties them to the admitted configurations.
-use Rattle.std.specs.Prelude.{ℕ, zero, suc, ◌+◌, Bool, true, false, not, ◌&&◌, ◌||◌, List, [], ◌∷◌}
+-- configurations, and nothing computes them: `possible_laws` of the crate ties them to the admitted configurations.
+use Rattle.std.specs.Prelude.{ℕ, zero, suc, ◌+◌, Bool, true, false, not, ◌&&◌, ◌||◌, List, [], ◌∷◌, if◌then◌else◌}
 use Rattle.feature_expr.specs.Config.{feature_limit}
 use Rattle.feature_expr.specs.declared.expr.Expr.{Expr, out-Expr}
+use Rattle.feature_expr.specs.declared.expr.Expr as e
 use Rattle.feature_expr.specs.declared.expr.Expr.TheOpen.{Expr-F}
 use Rattle.feature_expr.specs.Satisfaction.{satisfies}
 
@@ -34,3 +35,11 @@ is_constant_true _ = false
 -- whether it is the constant `true`
 abbrev pub is_true : Expr → Bool
 is_true cond = is_constant_true (out-Expr cond)
+
+-- whether the condition can hold, and is `true` where it always does
+abbrev pub is_settled : Expr → Expr → Bool
+is_settled model cond = can_hold model cond && (not (always_holds model cond) || is_true cond)
+
+-- the condition `true` in place of one that always holds
+abbrev pub settled : Expr → Expr → Expr
+settled model cond = if always_holds model cond then e.True else cond

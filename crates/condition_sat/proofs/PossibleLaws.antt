@@ -6,7 +6,7 @@ use Rattle.feature_expr.specs.declared.expr.Expr.{Expr}
 use Rattle.feature_expr.specs.Config.{IsBetween, feature_limit}
 use Rattle.feature_expr.specs.Satisfaction.{satisfies}
 use Rattle.condition_sat.specs.Admitted.{IsAdmitted, SomeAdmitted}
-use Rattle.vtable.specs.Possible.{some_config, some_admitted, can_hold, can_meet, always_holds}
+use Rattle.condition_sat.specs.Possible.{some_config, some_admitted, can_hold, can_meet, always_holds}
 
 pub record Passing (low high : ℕ) (passes : List ℕ → Bool) : Type 0 where
   pub config : List ℕ

@@ -1,5 +1,0 @@
-use Rattle.vtable.proofs.JoinLaws.{always_true}
-use Rattle.vtable.proofs.possible.holds_always.Goals as goal
-
-pub returns-in-True : goal.returns-in-True
-returns-in-True c = always_true _ _ c.in-True.is

@@ -1,5 +1,0 @@
-use Rattle.vtable.proofs.PossibleLaws.{apart_says}
-use Rattle.vtable.proofs.possible.meet_somewhere.Goals as goal
-
-pub returns : goal.returns
-returns c = apart_says _ _ _ _ c.in_ok-apart.ensures.yes c.in_ok-apart.ensures.no
