@@ -115,30 +115,25 @@ fn each_case_is_found_in_its_variant(rt: HostRuntime) -> Result<(), Fail> {
 }
 
 fn is_found(rt: &impl Abort, alloc: Global, line: &str) -> Result<(), Fail> {
-    let case = parts(line)?;
-    let found = found_in(alloc, &case)?;
-    assert_eq!(rt; found.as_str(), case[6], "{line}");
+    let (wanted, found) = found_in(alloc, line)?;
+    assert_eq!(rt; found.as_str(), wanted, "{line}");
     Ok(())
 }
 
-/// The eight parts of a case.
-fn parts(line: &str) -> Result<[&str; 8], Fail> {
-    let mut parts = [""; 8];
-    let mut place = 0_usize;
-    for part in line.split(" | ") {
-        let slot = parts.get_mut(place).ok_or("a part too many")?;
-        *slot = part;
-        place = place.saturating_add(1);
-    }
-    Ok(parts)
-}
-
-fn found_in(alloc: Global, case: &[&str; 8]) -> Result<String, Fail> {
+/// What is to be found, and what is found.
+fn found_in(alloc: Global, line: &str) -> Result<(&str, String), Fail> {
+    let (model, line) = line.split_once(" | ").ok_or("no table")?;
+    let (cond, line) = line.split_once(" | ").ok_or("no column")?;
+    let (first, line) = line.split_once(" | ").ok_or("no other column")?;
+    let (second, line) = line.split_once(" | ").ok_or("no cells")?;
+    let (cells, line) = line.split_once(" | ").ok_or("no row")?;
+    let (row_cond, line) = line.split_once(" | ").ok_or("nothing wanted")?;
+    let (wanted, there) = line.split_once(" | ").ok_or("no variant")?;
     let mut tables = Vec::new(alloc);
-    tables.push(table(alloc, "t", case[1], [case[2], case[3]])?)?;
+    tables.push(table(alloc, "t", cond, [first, second])?)?;
     let mut rows = Vec::new(alloc);
-    rows.push(row(alloc, 0, 7, case[4], case[5])?)?;
-    checked(alloc, case[0], tables, rows, case[7])
+    rows.push(row(alloc, 0, 7, cells, row_cond)?)?;
+    Ok((wanted, checked(alloc, model, tables, rows, there)?))
 }
 
 fn checked(

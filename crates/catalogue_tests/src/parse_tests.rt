@@ -48,11 +48,8 @@ fn is_spelled(rt: &impl Abort, alloc: Global, text: &str, wanted: &str) -> Resul
 /// The text of a table's line.
 fn with_lines(alloc: Global, line: &str) -> Result<String, Fail> {
     let mut text = String::new(alloc);
-    let mut between = "";
-    for part in line.split('/') {
-        text.push_str(between)?;
-        text.push_str(part)?;
-        between = "\n";
+    for letter in line.chars() {
+        text.push(if letter == '/' { '\n' } else { letter })?;
     }
     Ok(text)
 }
