@@ -1,5 +1,7 @@
 mod CheckLaws
 mod CompleteLaws
+mod CountLaws
+mod FillLaws
 mod Pieces
 mod ReadyLaws
 mod ReplayLaws

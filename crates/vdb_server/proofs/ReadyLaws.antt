@@ -1,5 +1,6 @@
 -- A catalogue that passes its check is refused for no cause.
-use Rattle.std.proofs.Common.{◌≢◌, ℕ, List}
+use Rattle.std.proofs.Common.{◌≡◌, ◌≢◌, ℕ, List, inl, inr, arith}
+use Rattle.causes.specs.Faults.{Rose}
 use Rattle.vra_types.specs.declared.refused.CheckRefused.{CheckRefused}
 use Rattle.vra_types.specs.declared.refused.CheckRefused.TheVariants as unpassed
 use Rattle.vra_types.proofs.PassLaws.{unrefused}
@@ -8,7 +9,7 @@ use Rattle.vschema.specs.declared.catalog.Catalog.{Catalog}
 use Rattle.vschema.specs.declared.refused.CatalogRefused.{CatalogRefused}
 use Rattle.vschema.specs.declared.refused.CatalogRefused.TheVariants as refused
 use Rattle.vschema.proofs.FileLaws.{one_catalogue, faultless}
-use Rattle.vdb_server.specs.Checks.{ArePassing, IsReady}
+use Rattle.vdb_server.specs.Checks.{ArePassing, HoldsPassing, IsReady}
 use Rattle.vdb_server.specs.Exits.{IsUnpassed, RefusedFor, HasNoFault}
 use Rattle.vdb_server.specs.Sinks.{Held}
 use Rattle.vdb_server.specs.Sources.{Files}
@@ -42,7 +43,19 @@ pub no_fault : (before after : Files) (catalogue stream : List ℕ) (out out' : 
 no_fault before after catalogue stream out out' ready = record {
   read = ready.read;
   written = ready.written;
-  short_catalogue = ready.short_catalogue;
-  short_stream = ready.short_stream;
-  taken = λ why f. not_refused_for f.bytes (ready.passing f.bytes f.content) why f.refused;
+  short_catalogue = ready.holds.short_catalogue;
+  short_stream = ready.holds.short_stream;
+  taken = λ why f. not_refused_for f.bytes (ready.holds.passing f.bytes f.content) why f.refused;
+}
+
+still : (old new : ℕ) → old ≡ 0 → new ≡ 0 → Rose old new → ⊥
+still old new was is (inl more) = omega (arith, was, is, more)
+still old new was is (inr last) = omega (arith, was, is, last)
+
+-- counts that are 0 before and after haven't risen
+pub no_fault_counted : (before after : Files) (catalogue stream : List ℕ) (out out' : Held) → HoldsPassing before catalogue stream → before.faults ≡ 0 → after.faults ≡ 0 → out.faults ≡ 0 → out'.faults ≡ 0 → IsReady before after catalogue stream out out'
+no_fault_counted before after catalogue stream out out' holds files files' sink sink' = record {
+  read = still before.faults after.faults files files';
+  written = still out.faults out'.faults sink sink';
+  holds = holds;
 }

@@ -197,26 +197,20 @@ pub closed_all : (opening : Opening) (stream : List ℕ) (fed : ℕ) (start now 
 closed_all opening stream fed start now session is moved says =
     let facts = stands_closed (works session.phase (held_of session)) (is_ended session.phase || is_over session && not (works session.phase (held_of session))) (is_empty (waiting_of session)) (says_closed moved session says) in
     let left = whole_stream (is_ended session.phase) (is_over session) stream fed (nothing_left (works session.phase (held_of session)) (is_ended session.phase) (is_over session) facts.0 facts.1) is.over in
-    let sent : replied is.run ≡ is.taken = is.at.output ∙ ap (λ (w : List ℕ). is.taken ++ w) (nothing_waits (waiting_of session) facts.2) ∙ append-nil is.taken in
     record {
-      run = is.run;
-      is_run = is.at.is_run;
-      fits = is.at.fit;
-      rest = held_of session ++ drop fed stream;
-      input = input_of opening stream fed is.taken is.run session is.at;
-      read_out = subst (λ (s : State). works s.phase (held_of session ++ drop fed stream) ≡ false) is.at.state (read_out_by session.phase (held_of session) (drop fed stream) facts.0 left);
-      put = subst (Appends start now) (sym sent) is.put;
+      begun = record {
+        run = is.run;
+        is_run = is.at.is_run;
+        fits = is.at.fit;
+        rest = held_of session ++ drop fed stream;
+        input = input_of opening stream fed is.taken is.run session is.at;
+        sent = is.taken;
+        unsent = waiting_of session;
+        output = is.at.output;
+        put = is.put;
+      };
+      whole = record {
+        sent_all = nothing_waits (waiting_of session) facts.2;
+        read_out = subst (λ (s : State). works s.phase (held_of session ++ drop fed stream) ≡ false) is.at.state (read_out_by session.phase (held_of session) (drop fed stream) facts.0 left);
+      };
     }
-
-pub all_replays : (opening : Opening) (stream : List ℕ) (before after : Option (List ℕ)) → ReplaysAll opening stream before after → Replays opening stream before after
-all_replays opening stream before after all = record {
-  run = all.run;
-  is_run = all.is_run;
-  fits = all.fits;
-  rest = all.rest;
-  input = all.input;
-  sent = replied all.run;
-  unsent = [];
-  output = sym (append-nil (replied all.run));
-  put = all.put;
-}

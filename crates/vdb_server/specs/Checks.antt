@@ -13,19 +13,24 @@ use Rattle.vdb_server.specs.CheckLines.{passed_line}
 use Rattle.vdb_server.specs.Exits.{IsRefusedFile}
 use Rattle.vdb_server.specs.Replays.{PutsFront}
 use Rattle.vdb_server.specs.Sinks.{Held}
-use Rattle.vdb_server.specs.Sources.{Files, IsLong}
+use Rattle.vdb_server.specs.Sources.{Files, IsLong, file_limit}
 use Rattle.vdb_server.specs.declared.exit.CatalogueFault.TheVariants as fault
 use Rattle.vdb_server.specs.declared.exit.Exit.{Exit}
 use Rattle.vdb_server.specs.declared.exit.Exit.TheVariants as exit
-use Rattle.vdb_server.specs.declared.tool.TheConstants.{FILE_LIMIT}
 
 -- the file was read whole, and its content is this catalogue with these opening rows, which pass their check
 pub record IsCheckedFile (files : Files) (name : List ℕ) (catalog : Catalog) (rows : List OpeningRow) : Type 0 where
   pub bytes : List ℕ
   pub content : IsContent files.contents name bytes
-  pub within : length bytes ≤ FILE_LIMIT
+  pub within : length bytes ≤ file_limit
   pub spelled : IsCatalogue bytes catalog rows
   pub passes : Passes catalog rows
+
+-- the file was read whole and is a catalogue that passes its check
+pub record IsChecked (files : Files) (name : List ℕ) : Type 0 where
+  pub catalog : Catalog
+  pub rows : List OpeningRow
+  pub checked : IsCheckedFile files name catalog rows
 
 -- bytes that are a catalogue with opening rows that passes its check
 pub record ArePassing (bytes : List ℕ) : Type 0 where
@@ -34,14 +39,17 @@ pub record ArePassing (bytes : List ℕ) : Type 0 where
   pub spelled : IsCatalogue bytes catalog rows
   pub passes : Passes catalog rows
 
--- Nothing stands in the way of a command: no count of faults rises, the files are within the limit, and what the
--- catalogue's file is told to hold is a catalogue that passes its check.
+-- two files are within the limit, and what the first is told to hold is a catalogue that passes its check
+pub record HoldsPassing (files : Files) (catalogue stream : List ℕ) : Type 0 where
+  pub short_catalogue : IsLong files.contents catalogue file_limit → ⊥
+  pub short_stream : IsLong files.contents stream file_limit → ⊥
+  pub passing : (bytes : List ℕ) → IsContent files.contents catalogue bytes → ArePassing bytes
+
+-- Nothing stands in the way of a command: no count of faults rises, and the files are such.
 pub record IsReady (before after : Files) (catalogue stream : List ℕ) (out out' : Held) : Type 0 where
   pub read : Rose before.faults after.faults → ⊥
   pub written : Rose out.faults out'.faults → ⊥
-  pub short_catalogue : IsLong before.contents catalogue FILE_LIMIT → ⊥
-  pub short_stream : IsLong before.contents stream FILE_LIMIT → ⊥
-  pub passing : (bytes : List ℕ) → IsContent before.contents catalogue bytes → ArePassing bytes
+  pub holds : HoldsPassing before catalogue stream
 
 -- the exits of a catalogue that was read and doesn't pass its check
 abbrev pub IsUnpassedExit : Exit → Catalog → List OpeningRow → Type 0
@@ -76,6 +84,6 @@ IsCheckExit before name exit.Done after out out' = IsTold before name out out'
 IsCheckExit before name (exit.Catalogue why) after out out' = IsRefusedFile before name why × (out' ≡ out)
 IsCheckExit before name exit.ReadFault after out out' = Rose before.faults after.faults × (out' ≡ out)
 IsCheckExit before name exit.WriteFault after out out' = Rose out.faults out'.faults × IsToldInPart before name out out'
-IsCheckExit before name exit.TooLong after out out' = IsLong before.contents name FILE_LIMIT × (out' ≡ out)
+IsCheckExit before name exit.TooLong after out out' = IsLong before.contents name file_limit × (out' ≡ out)
 IsCheckExit before name exit.Memory after out out' = out' ≡ out
 IsCheckExit before name _ after out out' = ⊥

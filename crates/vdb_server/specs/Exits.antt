@@ -14,8 +14,7 @@ use Rattle.vra_types.specs.declared.refused.CheckRefused.{CheckRefused}
 use Rattle.vra_types.specs.declared.refused.CheckRefused.TheVariants as unpassed
 use Rattle.vdb_server.specs.CheckLines.{check_line_of}
 use Rattle.vdb_server.specs.Sinks.{Held}
-use Rattle.vdb_server.specs.Sources.{Files, IsLong}
-use Rattle.vdb_server.specs.declared.tool.TheConstants.{FILE_LIMIT}
+use Rattle.vdb_server.specs.Sources.{Files, IsLong, file_limit}
 use Rattle.vdb_server.specs.declared.exit.CatalogueFault.{CatalogueFault}
 use Rattle.vdb_server.specs.declared.exit.CatalogueFault.TheVariants as fault
 use Rattle.vdb_server.specs.declared.exit.Exit.{Exit}
@@ -103,13 +102,13 @@ RefusedFor (fault.Check why catalog) bytes = IsUnpassed bytes catalog why
 pub record IsReadable (files : Files) (name : List ℕ) : Type 0 where
   pub bytes : List ℕ
   pub content : IsContent files.contents name bytes
-  pub within : length bytes ≤ FILE_LIMIT
+  pub within : length bytes ≤ file_limit
 
 -- the file was read whole, and its bytes were refused for another cause than memory
 pub record IsRefusedFile (files : Files) (name : List ℕ) (why : CatalogueFault) : Type 0 where
   pub bytes : List ℕ
   pub content : IsContent files.contents name bytes
-  pub within : length bytes ≤ FILE_LIMIT
+  pub within : length bytes ≤ file_limit
   pub refused : RefusedFor why bytes
 
 -- an exit with a catalogue's fault shows this of it
@@ -120,7 +119,7 @@ IfCatalogue _ shown = Unit {0}
 -- the exits of a read of a file, with their causes
 abbrev pub IsReadExit : Files → List ℕ → Exit → Files → Type 0
 IsReadExit before name exit.ReadFault after = Rose before.faults after.faults
-IsReadExit before name exit.TooLong after = IsLong before.contents name FILE_LIMIT
+IsReadExit before name exit.TooLong after = IsLong before.contents name file_limit
 IsReadExit before name exit.Memory after = Unit {0}
 IsReadExit before name _ after = ⊥
 
@@ -129,24 +128,13 @@ abbrev pub IsOpeningExit : Files → List ℕ → Exit → Files → Type 0
 IsOpeningExit before name (exit.Catalogue why) after = IsRefusedFile before name why
 IsOpeningExit before name other after = IsReadExit before name other after
 
--- the exits of a replay of a file over a catalogue, with their causes
-abbrev pub IsRunExit : Files → List ℕ → List ℕ → Exit → Files → Held → Held → Type 0
-IsRunExit before catalogue stream exit.Done after out out' = IsReadable before catalogue × IsReadable before stream
-IsRunExit before catalogue stream (exit.Catalogue why) after out out' = IsRefusedFile before catalogue why × (out' ≡ out)
-IsRunExit before catalogue stream exit.ReadFault after out out' = Rose before.faults after.faults × (out' ≡ out)
-IsRunExit before catalogue stream exit.WriteFault after out out' = Rose out.faults out'.faults
-IsRunExit before catalogue stream exit.TooLong after out out' =
-    (IsLong before.contents catalogue FILE_LIMIT ⊎ IsLong before.contents stream FILE_LIMIT) × (out' ≡ out)
-IsRunExit before catalogue stream exit.Memory after out out' = Unit {0}
-IsRunExit before catalogue stream _ after out out' = ⊥
-
 -- No cause of a fault holds: no count of faults rises, the files are within the limit, and the catalogue is refused for
 -- no cause. Over files whose contents aren't told nobody can know that.
 pub record HasNoFault (before after : Files) (catalogue stream : List ℕ) (out out' : Held) : Type 0 where
   pub read : Rose before.faults after.faults → ⊥
   pub written : Rose out.faults out'.faults → ⊥
-  pub short_catalogue : IsLong before.contents catalogue FILE_LIMIT → ⊥
-  pub short_stream : IsLong before.contents stream FILE_LIMIT → ⊥
+  pub short_catalogue : IsLong before.contents catalogue file_limit → ⊥
+  pub short_stream : IsLong before.contents stream file_limit → ⊥
   pub taken : (why : CatalogueFault) → IsRefusedFile before catalogue why → ⊥
 
 -- an exit that comes before the session is opened
@@ -163,3 +151,13 @@ IsToolExit exit.LinksFault = ⊥
 IsToolExit exit.TurnsOut = ⊥
 IsToolExit exit.KeeperFault = ⊥
 IsToolExit _ = Unit {0}
+
+-- the count of the files' faults rises at a read fault, and stays as it was at every other exit
+abbrev pub CountsReads : Exit → ℕ → ℕ → Type 0
+CountsReads exit.ReadFault before after = Rose before after
+CountsReads _ before after = after ≡ before
+
+-- and the count of the sink's faults rises at a write fault alone
+abbrev pub CountsWrites : Exit → ℕ → ℕ → Type 0
+CountsWrites exit.WriteFault before after = Rose before after
+CountsWrites _ before after = after ≡ before

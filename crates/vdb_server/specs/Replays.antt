@@ -1,5 +1,5 @@
 -- How a replay ends, and what it has put out.
-use Rattle.std.specs.Prelude.{◌≡◌, ℕ, ◌≤◌, Bool, true, false, List, ◌++◌, length, take, Option}
+use Rattle.std.specs.Prelude.{◌≡◌, ℕ, ◌≤◌, Bool, true, false, List, [], ◌++◌, length, take, Option}
 use Rattle.std.specs.Io.KnownBytes.{Appends}
 use Rattle.causes.specs.Faults.{Rose}
 use Rattle.session_poll.specs.Runs.{Did, IsRun, AllFit, end_of, bytes_read, events_of, replied, IsAt}
@@ -20,7 +20,7 @@ pub record PutsFront (piece : List ℕ) (before after : Option (List ℕ)) : Typ
 
 -- a whole piece is put, or the sink has failed behind its first bytes
 abbrev pub PutsAll : List ℕ → Bool → Held → Held → Type 0
-PutsAll piece true before after = Appends before.bytes after.bytes piece × (before.faults ≤ after.faults)
+PutsAll piece true before after = Appends before.bytes after.bytes piece × (after.faults ≡ before.faults)
 PutsAll piece false before after = PutsFront piece before.bytes after.bytes × Rose before.faults after.faults
 
 -- the exits of a replay, with the cause of a fault
@@ -43,16 +43,15 @@ pub record Replays (opening : Opening) (stream : List ℕ) (before after : Optio
   pub output : replied run ≡ sent ++ unsent
   pub put : Appends before after sent
 
--- What was put out is the whole reply of such a run. It was read to the packet that ended the session, or to the end of
--- the stream: what is left of that is no packet, whole or bad.
+-- What was put out is the whole reply. The stream was read to the packet that ended the session, or to its end: what is
+-- left of it is no packet, whole or bad.
+pub record IsWhole {opening : Opening} {stream : List ℕ} {before after : Option (List ℕ)} (replays : Replays opening stream before after) : Type 0 where
+  pub sent_all : replays.unsent ≡ []
+  pub read_out : works (end_of replays.run).phase replays.rest ≡ false
+
 pub record ReplaysAll (opening : Opening) (stream : List ℕ) (before after : Option (List ℕ)) : Type 0 where
-  pub run : List Did
-  pub is_run : IsRun opening run
-  pub fits : AllFit 0 (events_of run)
-  pub rest : List ℕ
-  pub input : stream ≡ bytes_read run ++ rest
-  pub read_out : works (end_of run).phase rest ≡ false
-  pub put : Appends before after (replied run)
+  pub begun : Replays opening stream before after
+  pub whole : IsWhole begun
 
 -- A session was fed so many bytes of the stream, and what was taken of its output was put out.
 pub record InReplay (opening : Opening) (stream : List ℕ) (fed : ℕ) (start now : Option (List ℕ)) (session : Session) : Type 0 where

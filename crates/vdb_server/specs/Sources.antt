@@ -15,13 +15,24 @@ abbrev pub IsLong : Option (List (List ℕ × List ℕ)) → List ℕ → ℕ �
 IsLong None name most = Unit {0}
 IsLong (Some files) name most = (bytes : List ℕ) × IsContent (Some files) name bytes × (most < length bytes)
 
+-- the greatest length of a file that the program reads, in bytes
+abbrev pub file_limit : ℕ
+file_limit = 268435456
+
 -- a read of the file `name`, of at most so many bytes, behind the bytes `old`
-abbrev pub Reads : Files → List ℕ → ℕ → FileGot → Files → List ℕ → List ℕ → Type 0
-Reads before name most got.Whole after old new =
-    (bytes : List ℕ) × IsContent before.contents name bytes × (length bytes ≤ most) × (new ≡ old ++ bytes)
-Reads before name most got.TooLong after old new = IsLong before.contents name most × (new ≡ old)
-Reads before name most got.Failed after old new = Rose before.faults after.faults × (new ≡ old)
-Reads before name most got.Memory after old new = new ≡ old
+abbrev pub Reads : Files → List ℕ → ℕ → FileGot → List ℕ → List ℕ → Type 0
+Reads files name most got.Whole old new =
+    (bytes : List ℕ) × IsContent files.contents name bytes × (length bytes ≤ most) × (new ≡ old ++ bytes)
+Reads files name most got.TooLong old new = IsLong files.contents name most × (new ≡ old)
+Reads files name most got.Failed old new = new ≡ old
+Reads files name most got.Memory old new = new ≡ old
+
+-- the count of faults rises at a failed read, and stays as it was at every other answer
+abbrev pub CountsRead : FileGot → ℕ → ℕ → Type 0
+CountsRead got.Whole before after = after ≡ before
+CountsRead got.TooLong before after = after ≡ before
+CountsRead got.Failed before after = Rose before after
+CountsRead got.Memory before after = after ≡ before
 
 -- no call changes the contents, and no count falls
 pub record Lasts (before after : Files) : Type 0 where

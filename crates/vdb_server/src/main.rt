@@ -3,6 +3,7 @@
 
 mod check_line;
 mod exit;
+mod laws;
 mod mem_files;
 mod mem_sink;
 mod real_files;

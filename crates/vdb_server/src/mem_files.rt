@@ -1,5 +1,5 @@
-ghost use Rattle.std.specs.Prelude.{◌≡◌, ◌↔◌, Contains, IfSome, IsTrue, map};
-ghost use Rattle.vdb_server.specs.Sources.{Files, Reads, Lasts};
+ghost use Rattle.std.specs.Prelude.{◌≡◌, ◌↔◌, Some, Contains, IfSome, IsTrue, map};
+ghost use Rattle.vdb_server.specs.Sources.{Files, Reads, CountsRead, Lasts};
 ghost use Rattle.vdb_server.specs.MemFiles.{file_of, files_of, PutsContent};
 
 use crate::source::{FileGot, Source};
@@ -12,7 +12,7 @@ pub struct MemFile {
     pub bytes: Text,
 }
 
-/// Files in memory. A name that isn't there is a failed read.
+/// Files in memory. A read fails where the name isn't there, or the call was to fail.
 #[derive(Debug, Drop)]
 pub struct MemFiles {
     files: List<MemFile>,
@@ -23,7 +23,9 @@ pub struct MemFiles {
 
 impl MemFiles {
     /// The calls with the numbers in `failing`, counted from 0, fail.
-    pub fn new(files: List<MemFile>, failing: List<u64>) -> MemFiles {
+    pub fn new(files: List<MemFile>, failing: List<u64>) -> MemFiles
+        ensures { files_of result ≡ record { contents = Some (map file_of files); faults = 0 } }
+    {
         MemFiles {
             files,
             failing,

@@ -1,3 +1,4 @@
+ghost use Rattle.std.specs.Prelude.{◌≡◌, Some, []};
 ghost use Rattle.vdb_server.specs.MemSinks.{held_of};
 
 use crate::sink::{Sink, SinkPut};
@@ -15,7 +16,9 @@ pub struct MemSink {
 
 impl MemSink {
     /// An empty one. The calls with the numbers in `failing`, counted from 0, fail.
-    pub fn new(alloc: Global, failing: List<u64>) -> MemSink {
+    pub fn new(alloc: Global, failing: List<u64>) -> MemSink
+        ensures { held_of result ≡ record { bytes = Some []; faults = 0 } }
+    {
         MemSink {
             bytes: List::new(alloc),
             failing,
@@ -25,7 +28,9 @@ impl MemSink {
     }
 
     /// The bytes that were put.
-    pub fn bytes(&self) -> &List<u8> {
+    pub fn bytes(&self) -> &List<u8>
+        ensures { (held_of self.now).bytes ≡ Some result.now }
+    {
         &self.bytes
     }
 }

@@ -1,6 +1,7 @@
-ghost use Rattle.std.specs.Prelude.{None};
-ghost use Rattle.vdb_server.specs.Sources.{Files, Reads, Lasts};
-ghost use Rattle.vdb_server.specs.RealFiles.{Fills};
+ghost use Rattle.std.specs.Prelude.{◌≡◌, ◌≤◌, None, length, IfSome, IfNone};
+ghost use Rattle.causes.specs.Faults.{Rose};
+ghost use Rattle.vdb_server.specs.Sources.{Files, Reads, CountsRead, Lasts};
+ghost use Rattle.vdb_server.specs.RealFiles.{Fills, ReadsPiece};
 
 use crate::source::{FileGot, Source};
 use std::fs;
@@ -29,29 +30,32 @@ impl<R: Files> Source for RealFiles<'_, R> {
     fn read_file(&mut self, name: &str, max: u64, into: &mut Vec<u8>) -> FileGot {
         let start = into.len();
         let got = match fs::open(self.rt, name) {
-            Ok(mut file) => fill(&mut file, max, into),
-            Err(_error) => FileGot::Failed,
+            Ok(mut file) => fill(&mut file, max, into, &mut self.faults),
+            Err(_error) => {
+                self.faults = self.faults.saturating_add(1);
+                FileGot::Failed
+            }
         };
         if got != FileGot::Whole {
             into.truncate(start);
-        }
-        if got == FileGot::Failed {
-            self.faults = self.faults.saturating_add(1);
         }
         got
     }
 }
 
 /// Reads to the end, behind what was there, or up to the first byte past the limit.
-fn fill<F: Read>(file: &mut F, max: u64, into: &mut Vec<u8>) -> FileGot
-    ensures { Fills max result into.old.items into.new.items }
+#[tactic(auto, using(crate::proofs::FillLaws::filling))]
+pub fn fill<F: Read>(file: &mut F, max: u64, into: &mut Vec<u8>, faults: &mut u64) -> FileGot
+    ensures fills { Fills (F.remaining file.old) max result into.old.items into.new.items }
+    ensures counts { CountsRead result faults.old faults.new }
+    ensures later { faults.old ≤ faults.new }
 {
     let mut left = max;
     let mut piece = [0u8; PIECE];
-    'pieces: for _ in 0..u64::MAX {
-        match file.read(&mut piece) {
-            Ok(0) => return FileGot::Whole,
-            Ok(count) => {
+    'pieces: loop {
+        match read_piece(file, &mut piece, faults) {
+            Some(0) => return FileGot::Whole,
+            Some(count) => {
                 if count as u64 > left {
                     return FileGot::TooLong;
                 }
@@ -60,8 +64,24 @@ fn fill<F: Read>(file: &mut F, max: u64, into: &mut Vec<u8>) -> FileGot
                     return FileGot::Memory;
                 }
             }
-            Err(_error) => return FileGot::Failed,
+            None => return FileGot::Failed,
         }
     }
-    FileGot::TooLong
+}
+
+/// One read. None: it was an error, which is counted.
+fn read_piece<F: Read>(file: &mut F, piece: &mut [u8], faults: &mut u64) -> Option<usize>
+    ensures reads { ReadsPiece (F.remaining file.old) result (F.remaining file.new) piece.new }
+    ensures same { length piece.new ≡ length piece.old }
+    ensures some { IfSome result (λ _. faults.new ≡ faults.old) }
+    ensures none { IfNone result (Rose faults.old faults.new) }
+    ensures later { faults.old ≤ faults.new }
+{
+    match file.read(piece) {
+        Ok(count) => Some(count),
+        Err(_error) => {
+            *faults = faults.saturating_add(1);
+            None
+        }
+    }
 }

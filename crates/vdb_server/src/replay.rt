@@ -3,6 +3,7 @@ ghost use Rattle.causes.specs.Faults.{Rose};
 ghost use Rattle.session_poll.specs.Runs.{IsAt};
 ghost use Rattle.session_poll.specs.Servable.{IsServable};
 ghost use Rattle.session_poll.specs.Session.{waiting_of, is_over};
+ghost use Rattle.vdb_server.specs.Exits.{CountsWrites};
 ghost use Rattle.vdb_server.specs.Replays.{GoesOn, IsReplayExit, PutsAll, Replays, ReplaysAll, Stops};
 ghost use Rattle.vdb_server.specs.declared.exit.Exit.TheVariants as exit;
 
@@ -23,6 +24,8 @@ const WAITING_LIMIT: usize = 65_536;
 pub fn replay<O: Sink>(alloc: Global, opening: &Opening, stream: &[u8], out: &mut O) -> Exit
     requires { IsServable opening.now }
     ensures ends { IsReplayExit result (O.held out.old) (O.held out.new) }
+    ensures writes { CountsWrites result (O.held out.old).faults (O.held out.new).faults }
+    ensures later { (O.held out.old).faults ≤ (O.held out.new).faults }
     ensures replays { Replays opening.now stream.now (O.held out.old).bytes (O.held out.new).bytes }
     ensures all { result ≡ exit.Done → ReplaysAll opening.now stream.now (O.held out.old).bytes (O.held out.new).bytes }
 {
@@ -35,12 +38,14 @@ pub fn replay<O: Sink>(alloc: Global, opening: &Opening, stream: &[u8], out: &mu
     exit
 }
 
-#[tactic(auto, using(crate::proofs::ReplayLaws::replays_so_far, crate::proofs::ReplayLaws::closed_all, crate::proofs::ReplayLaws::all_replays))]
+#[tactic(auto, using(crate::proofs::ReplayLaws::replays_so_far, crate::proofs::ReplayLaws::closed_all))]
 fn drive<O: Sink>(session: &mut Session, opening: &Opening, stream: &[u8], out: &mut O) -> Exit
     requires servable { IsServable opening.now }
     requires first { IsAt opening.now [] [] [] session.old }
     requires over { is_over session.old ≡ false }
     ensures ends { IsReplayExit result (O.held out.old) (O.held out.new) }
+    ensures writes { CountsWrites result (O.held out.old).faults (O.held out.new).faults }
+    ensures later { (O.held out.old).faults ≤ (O.held out.new).faults }
     ensures replays { Replays opening.now stream.now (O.held out.old).bytes (O.held out.new).bytes }
     ensures all { result ≡ exit.Done → ReplaysAll opening.now stream.now (O.held out.old).bytes (O.held out.new).bytes }
 {
@@ -71,6 +76,7 @@ fn follow<O: Sink>(
     ensures within { IfSome result (λ next. next ≤ length stream.now) }
     ensures on { IfSome result (λ next. GoesOn stream.now fed (O.held out.old).bytes session.old next (O.held out.new).bytes session.new) }
     ensures stops { IfNone result (Stops stream.now fed (O.held out.old).bytes session.old (O.held out.new).bytes) }
+    ensures quiet { IfSome result (λ _. (O.held out.new).faults ≡ (O.held out.old).faults) }
     ensures fault { IfNone result (Rose (O.held out.old).faults (O.held out.new).faults) }
     ensures later { (O.held out.old).faults ≤ (O.held out.new).faults }
 {
@@ -111,6 +117,7 @@ fn put_waiting<O: Sink>(
     ensures same { IfSome result (λ next. next ≡ fed) }
     ensures on { IfSome result (λ next. GoesOn stream.now fed (O.held out.old).bytes session.old fed (O.held out.new).bytes session.new) }
     ensures stops { IfNone result (Stops stream.now fed (O.held out.old).bytes session.old (O.held out.new).bytes) }
+    ensures quiet { IfSome result (λ _. (O.held out.new).faults ≡ (O.held out.old).faults) }
     ensures fault { IfNone result (Rose (O.held out.old).faults (O.held out.new).faults) }
     ensures later { (O.held out.old).faults ≤ (O.held out.new).faults }
 {

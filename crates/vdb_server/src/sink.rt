@@ -8,7 +8,8 @@ pub enum SinkPut {
     Failed,
 }
 
-/// Where bytes go. It means the bytes that it holds, where they are told, and a count of faults that never falls.
+/// Where bytes go. It means the bytes that it holds, where they are told, and a count of faults that rises at each
+/// failed put.
 pub trait Sink {
     ghost held: { Self → Held };
 

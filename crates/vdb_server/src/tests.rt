@@ -1,9 +1,13 @@
 use crate::exit::{CatalogueFault, Exit, fault_line, status};
 use crate::mem_files::{MemFile, MemFiles};
 use crate::mem_sink::MemSink;
-use crate::tool::{FILE_LIMIT, run_tool};
+use crate::real_files::fill;
+use crate::source::FileGot;
+use crate::tool::run_tool;
 use feature_expr::{List, Memory, Text};
 use std::alloc::{AllocError, Global};
+use std::io;
+use std::io::{ErrorKind, Read};
 use std::test::Fail;
 use vschema::{CatalogRefused, Which};
 
@@ -154,34 +158,42 @@ fn a_fault_ends_the_program_with_its_exit(rt: HostRuntime) -> Result<(), Fail> {
     Ok(())
 }
 
-#[test]
-fn other_words_are_refused(rt: HostRuntime) -> Result<(), Fail> {
-    let lists: [&[&str]; 8] = [
-        &[],
-        &["check"],
-        &["check", "c", "s"],
-        &["CHECK", "c"],
-        &["replay"],
-        &["replay", "c"],
-        &["Replay", "c", "s"],
-        &["replay", "c", "s", "t"],
-    ];
-    for list in lists {
-        let words = words_of(rt.alloc(), list)?;
-        let mut files = MemFiles::new(List::new(rt.alloc()), List::new(rt.alloc()));
-        let mut out = MemSink::new(rt.alloc(), List::new(rt.alloc()));
-        let exit = run_tool(rt.alloc(), words.as_slice(), &mut files, &mut out);
-        assert_eq!(rt; status(&exit), 1, "{list:?}");
+/// A reader that gives its bytes and then fails.
+#[derive(Drop)]
+struct FailsBehind<'a> {
+    bytes: &'a [u8],
+}
+
+impl Read for FailsBehind<'_> {
+    fn read(&mut self, into: &mut [u8]) -> io::Result<usize> {
+        match self.bytes.read(into)? {
+            0 => Err(io::Error::from(ErrorKind::Other)),
+            count => Ok(count),
+        }
     }
-    Ok(())
 }
 
 #[test]
-fn a_file_above_the_limit_is_too_long(rt: HostRuntime) -> Result<(), Fail> {
-    let long = vec![in rt.alloc(); b' '; FILE_LIMIT as usize + 1]?;
-    let (exit, out) = replayed(rt.alloc(), CATALOGUE, long.as_slice(), &[], &[])?;
-    assert_eq!(rt; exit, 8);
-    assert_eq!(rt; out.as_slice(), b"".as_slice());
+fn a_file_is_read_to_its_end_or_past_its_limit(rt: HostRuntime) -> Result<(), Fail> {
+    let limits = [
+        (4, FileGot::TooLong),
+        (5, FileGot::Whole),
+        (6, FileGot::Whole),
+    ];
+    let mut faults = 0;
+    for (limit, wanted) in limits {
+        let mut into = Vec::from_slice(rt.alloc(), b"-")?;
+        let mut bytes: &[u8] = b"abcde";
+        assert_eq!(rt; fill(&mut bytes, limit, &mut into, &mut faults), wanted);
+        assert_eq!(rt; faults, 0);
+    }
+    let mut into = Vec::new(rt.alloc());
+    let mut failing = FailsBehind { bytes: b"abc" };
+    assert_eq!(rt;
+        fill(&mut failing, 5, &mut into, &mut faults),
+        FileGot::Failed
+    );
+    assert_eq!(rt; faults, 1);
     Ok(())
 }
 

@@ -1,13 +1,12 @@
 ghost use Rattle.std.specs.Prelude.{◌≡◌, ◌≤◌, ◌↔◌, ◌⊎◌, ◌||◌, true, false, map, length, string_bytes, is_some, OnOk, IfSome, IfOk, IfErr};
-ghost use Rattle.causes.specs.Faults.{Rose};
 ghost use Rattle.causes.specs.Told.{IsContent};
-ghost use Rattle.vdb_server.specs.Sources.{IsLong, Lasts};
-ghost use Rattle.vdb_server.specs.Exits.{is_replay, is_check, catalogue_name, stream_name, IsReadable, IsRefusedFile, IfCatalogue, IfUnopened, IsReadExit, IsOpeningExit, HasNoFault, IsRunExit, IsToolExit};
+ghost use Rattle.vdb_server.specs.Sources.{IsLong, Lasts, file_limit};
+ghost use Rattle.vdb_server.specs.Exits.{is_replay, is_check, catalogue_name, stream_name, IsReadable, IsRefusedFile, IfCatalogue, IfUnopened, IsReadExit, IsOpeningExit, HasNoFault, IsToolExit, CountsReads, CountsWrites};
 ghost use Rattle.vra_types.specs.Check.{Passes};
-ghost use Rattle.vdb_server.specs.Checks.{IsCheckedFile, IsReady, IsToldExit, IsCheckExit, IsUnpassedExit};
+ghost use Rattle.vdb_server.specs.Checks.{IsChecked, IsCheckedFile, IsReady, IsToldExit, IsCheckExit, IsUnpassedExit};
 ghost use Rattle.session_poll.specs.Servable.{IsServable};
 ghost use Rattle.vschema.specs.Formed.{IsFormed};
-ghost use Rattle.vdb_server.specs.Replayed.{IsReplayedExit};
+ghost use Rattle.vdb_server.specs.Replayed.{IsReplayedExit, IsRunExit};
 ghost use Rattle.vdb_server.specs.declared.exit.Exit.TheVariants as exit;
 
 use crate::check_line::line_of_passed;
@@ -54,15 +53,18 @@ pub fn run_tool<F: Source, O: Sink>(
         → IsReady (F.files files.old) (F.files files.new) (catalogue_name (map string_bytes words.now)) (catalogue_name (map string_bytes words.now)) (O.held out.old) (O.held out.new)
         → (result ≡ exit.Done) ⊎ (result ≡ exit.Memory) }
     ensures usage { (result ≡ exit.Usage) ↔ ((is_replay (map string_bytes words.now) || is_check (map string_bytes words.now)) ≡ false) }
-    ensures read { result ≡ exit.ReadFault → Rose (F.files files.old).faults (F.files files.new).faults }
-    ensures write { result ≡ exit.WriteFault → Rose (O.held out.old).faults (O.held out.new).faults }
+    // A count of faults rises at the fault that the exit tells, and else stays as it was.
+    ensures reads { CountsReads result (F.files files.old).faults (F.files files.new).faults }
+    ensures writes { CountsWrites result (O.held out.old).faults (O.held out.new).faults }
+    // The second file's length counts once the first is a catalogue that passes its check.
     ensures long { result ≡ exit.TooLong
-        → IsLong (F.files files.old).contents (catalogue_name (map string_bytes words.now)) FILE_LIMIT
-        ⊎ (is_replay (map string_bytes words.now) ≡ true) × IsLong (F.files files.old).contents (stream_name (map string_bytes words.now)) FILE_LIMIT }
+        → IsLong (F.files files.old).contents (catalogue_name (map string_bytes words.now)) file_limit
+        ⊎ (is_replay (map string_bytes words.now) ≡ true) × IsChecked (F.files files.old) (catalogue_name (map string_bytes words.now)) × IsLong (F.files files.old).contents (stream_name (map string_bytes words.now)) file_limit }
     ensures catalogue { IfCatalogue result (IsRefusedFile (F.files files.old) (catalogue_name (map string_bytes words.now))) }
     ensures silent { IfUnopened result (O.held out.new ≡ O.held out.old) }
     ensures served { IsToolExit result }
     ensures lasts { Lasts (F.files files.old) (F.files files.new) }
+    ensures later { (O.held out.old).faults ≤ (O.held out.new).faults }
 {
     match replay_names(words) {
         Some((catalogue, stream)) => run_replay(alloc, catalogue, stream, files, out),
@@ -99,13 +101,16 @@ fn check_name(words: &[String]) -> Option<&str>
 }
 
 /// Says on the sink what a catalogue has that passes its check.
-#[tactic(auto, using(crate::proofs::CompleteLaws::opening_completes, crate::proofs::CheckLaws::not_told))]
+#[tactic(auto, using(crate::proofs::CompleteLaws::opening_completes, crate::proofs::CheckLaws::not_told, crate::proofs::CountLaws::counts))]
 fn run_check<F: Source, O: Sink>(alloc: Global, catalogue: &str, files: &mut F, out: &mut O) -> Exit
     ensures ends { IsCheckExit (F.files files.old) catalogue.now result (F.files files.new) (O.held out.old) (O.held out.new) }
     ensures told { IsToldExit (F.files files.old) catalogue.now result (O.held out.old) (O.held out.new) }
     ensures completes { HasNoFault (F.files files.old) (F.files files.new) catalogue.now catalogue.now (O.held out.old) (O.held out.new)
         → (result ≡ exit.Done) ⊎ (result ≡ exit.Memory) }
+    ensures reads { CountsReads result (F.files files.old).faults (F.files files.new).faults }
+    ensures writes { CountsWrites result (O.held out.old).faults (O.held out.new).faults }
     ensures lasts { Lasts (F.files files.old) (F.files files.new) }
+    ensures later { (O.held out.old).faults ≤ (O.held out.new).faults }
 {
     let opening = match read_opening(alloc, catalogue, files) {
         Ok(opening) => opening,
@@ -121,7 +126,7 @@ fn run_check<F: Source, O: Sink>(alloc: Global, catalogue: &str, files: &mut F, 
     }
 }
 
-#[tactic(auto, using(crate::proofs::CompleteLaws::opening_completes, crate::proofs::CompleteLaws::read_completes, crate::proofs::CompleteLaws::replay_completes, crate::proofs::ReplayedLaws::replayed, crate::proofs::ReplayedLaws::not_opened, crate::proofs::ReplayedLaws::not_read))]
+#[tactic(auto, using(crate::proofs::CompleteLaws::opening_completes, crate::proofs::CompleteLaws::read_completes, crate::proofs::CompleteLaws::replay_completes, crate::proofs::ReplayedLaws::replayed, crate::proofs::ReplayedLaws::not_opened, crate::proofs::ReplayedLaws::not_read, crate::proofs::ReplayedLaws::read_runs, crate::proofs::CountLaws::counts))]
 fn run_replay<F: Source, O: Sink>(
     alloc: Global,
     catalogue: &str,
@@ -133,7 +138,10 @@ fn run_replay<F: Source, O: Sink>(
     ensures completes { HasNoFault (F.files files.old) (F.files files.new) catalogue.now stream.now (O.held out.old) (O.held out.new)
         → (result ≡ exit.Done) ⊎ (result ≡ exit.Memory) }
     ensures replayed { IsReplayedExit (F.files files.old) catalogue.now stream.now result (O.held out.old) (O.held out.new) }
+    ensures reads { CountsReads result (F.files files.old).faults (F.files files.new).faults }
+    ensures writes { CountsWrites result (O.held out.old).faults (O.held out.new).faults }
     ensures lasts { Lasts (F.files files.old) (F.files files.new) }
+    ensures later { (O.held out.old).faults ≤ (O.held out.new).faults }
 {
     let opening = match read_opening(alloc, catalogue, files) {
         Ok(opening) => opening,
@@ -152,6 +160,8 @@ fn read_opening<F: Source>(alloc: Global, name: &str, files: &mut F) -> Result<O
     ensures checked { IfOk result (λ opening. IsCheckedFile (F.files files.old) name.now opening.catalog opening.rows) }
     ensures servable { IfOk result IsServable }
     ensures err { IfErr result (λ exit. IsOpeningExit (F.files files.old) name.now exit (F.files files.new)) }
+    ensures quiet { OnOk result ((F.files files.new).faults ≡ (F.files files.old).faults) }
+    ensures reads { IfErr result (λ exit. CountsReads exit (F.files files.old).faults (F.files files.new).faults) }
     ensures lasts { Lasts (F.files files.old) (F.files files.new) }
 {
     let bytes = read_whole(alloc, name, files)?;
@@ -183,8 +193,10 @@ fn checked_opening(alloc: Global, catalog: Catalog, rows: List<OpeningRow>) -> R
 /// The whole content of a file.
 fn read_whole<F: Source>(alloc: Global, name: &str, files: &mut F) -> Result<Vec<u8>, Exit>
     ensures content { IfOk result (λ bytes. IsContent (F.files files.old).contents name.now bytes.items) }
-    ensures within { IfOk result (λ bytes. length bytes.items ≤ FILE_LIMIT) }
+    ensures within { IfOk result (λ bytes. length bytes.items ≤ file_limit) }
     ensures err { IfErr result (λ exit. IsReadExit (F.files files.old) name.now exit (F.files files.new)) }
+    ensures quiet { OnOk result ((F.files files.new).faults ≡ (F.files files.old).faults) }
+    ensures reads { IfErr result (λ exit. CountsReads exit (F.files files.old).faults (F.files files.new).faults) }
     ensures lasts { Lasts (F.files files.old) (F.files files.new) }
 {
     let mut bytes = Vec::new(alloc);

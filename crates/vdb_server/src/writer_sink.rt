@@ -1,11 +1,10 @@
-ghost use Rattle.std.specs.Prelude.{None};
 ghost use Rattle.vdb_server.specs.Sinks.{Held, Puts};
 
 use crate::sink::{Sink, SinkPut};
 use std::io::Write;
 
-/// A sink over a writer, as standard output. It tells no content, and counts each error. A writer that takes nothing
-/// of a piece is a fault too.
+/// A sink over a writer, as standard output. It holds what the writer holds, where that one tells it, and counts each
+/// error. A writer that takes nothing of a piece is a fault too.
 #[derive(Drop)]
 pub struct WriterSink<W> {
     writer: W,
@@ -19,8 +18,9 @@ impl<W> WriterSink<W> {
 }
 
 impl<W: Write> Sink for WriterSink<W> {
-    ghost held = { λ it. record { bytes = None; faults = it.faults } };
+    ghost held = { λ it. record { bytes = W.contents it.writer; faults = it.faults } };
 
+    #[tactic(auto, using(crate::proofs::Pieces::pieces))]
     fn put(&mut self, piece: &[u8]) -> SinkPut {
         if piece.is_empty() {
             return SinkPut::Took(0);

@@ -1,4 +1,4 @@
-use Rattle.std.proofs.Common.{◌≡◌, rules, subst, le_trans}
+use Rattle.std.proofs.Common.{◌≡◌, rules, subst, ◌∙◌}
 use Rattle.session_poll.specs.Polls.{has_moved}
 use Rattle.session_poll.specs.Standing.{Says}
 use Rattle.session_poll.specs.declared.polled.Polled.TheVariants as polled
@@ -24,7 +24,7 @@ returns-in-None-clause-replays g c =
 
 pub turns-preserved : goal.turns-preserved
 turns-preserved g c = record {
-  later = le_trans c.turns.invariant.later c.follow.ensures.later;
+  quiet = c.in-Some.ensures.quiet ∙ c.turns.invariant.quiet;
   within = c.in-Some.ensures.within;
   at = c.in-Some.ensures.on.on c.args.opening.now (g.O.Sink.held c.args.out.now).bytes
       (polled_on c.args.opening.now c.args.stream.now c.turns.fed (g.O.Sink.held c.args.out.now).bytes (g.O.Sink.held c.turns.out).bytes c.turns.session c.poll-polled.new.self c.poll-polled.result c.poll-polled.ensures c.turns.invariant.at);

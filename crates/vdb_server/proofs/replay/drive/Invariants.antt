@@ -1,11 +1,11 @@
-use Rattle.std.proofs.Common.{◌≤◌, length}
+use Rattle.std.proofs.Common.{◌≡◌, ◌≤◌, length}
 use Rattle.vdb_server.specs.Replays.{InReplay}
 use Rattle.vdb_server.proofs.replay.drive.Given as goal
 
 -- the session stands at the end of a run over what it was fed, and what was taken of its output was put out
 abbrev pub invariant-turns : goal.invariant-turns
 invariant-turns g l = record {
-  later : (g.O.Sink.held l.fn.out).faults ≤ (g.O.Sink.held l.out).faults;
+  quiet : (g.O.Sink.held l.out).faults ≡ (g.O.Sink.held l.fn.out).faults;
   within : l.fed ≤ length l.stream;
   at : InReplay l.opening l.stream l.fed (g.O.Sink.held l.fn.out).bytes (g.O.Sink.held l.out).bytes l.session;
 }

@@ -1,4 +1,4 @@
-use Rattle.std.proofs.Common.{ℕ, ◌≤◌, length, List, Option}
+use Rattle.std.proofs.Common.{◌≡◌, ℕ, length, List, Option}
 use Rattle.std.specs.Io.KnownBytes.{Appends}
 use Rattle.vdb_server.specs.Replays.{PutsFront}
 use Rattle.vdb_server.proofs.replay.put_all.Given as goal
@@ -8,7 +8,7 @@ abbrev pub invariant-pieces : goal.invariant-pieces
 invariant-pieces g l = record {
   all : (after : Option (List ℕ)) → Appends (g.O.Sink.held l.out).bytes after l.rest → Appends (g.O.Sink.held l.fn.out).bytes after l.piece;
   front : (after : Option (List ℕ)) → PutsFront l.rest (g.O.Sink.held l.out).bytes after → PutsFront l.piece (g.O.Sink.held l.fn.out).bytes after;
-  later : (g.O.Sink.held l.fn.out).faults ≤ (g.O.Sink.held l.out).faults;
+  quiet : (g.O.Sink.held l.out).faults ≡ (g.O.Sink.held l.fn.out).faults;
 }
 
 abbrev pub decreases-pieces : goal.decreases-pieces
