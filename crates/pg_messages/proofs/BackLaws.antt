@@ -15,7 +15,7 @@ use Rattle.pg_messages.specs.declared.back.ErrorField.{ErrorField}
 use Rattle.pg_messages.specs.declared.back.Field.{Field}
 use Rattle.pg_messages.specs.declared.back.Status.{Status}
 use Rattle.pg_messages.specs.declared.back.Status.TheVariants as status
-use Rattle.pg_messages.specs.declared.back.TheConstants.{BACK_LIMIT, COUNT_LIMIT, MINUS_ONE}
+use Rattle.pg_messages.specs.Limits.{back_limit, count_limit, minus_one}
 use Rattle.pg_messages.specs.declared.decoded.Decoded.{Decoded}
 use Rattle.pg_messages.specs.declared.decoded.Decoded.TheVariants as decoded
 use Rattle.pg_messages.specs.declared.decoded.Why.{Why}
@@ -196,7 +196,7 @@ field_again f text rest is =
 -- ---- cells
 
 abbrev IsCell : Option (List ℕ) → List ℕ → Type 0
-IsCell c text = (text ≡ cell_bytes c) × (length text ≤ BACK_LIMIT)
+IsCell c text = (text ≡ cell_bytes c) × (length text ≤ back_limit)
 
 abbrev read_cell : Option (List ℕ) → List ℕ → Result (Option (List ℕ) × List ℕ) ℕ
 read_cell c rest = Ok (c, rest)
@@ -206,11 +206,11 @@ no_cell left c rest e = cc
 
 sized_takes : (bytes : List ℕ) (size : ℕ) (after : List ℕ) (c : Option (List ℕ)) (rest : List ℕ) → Takes bytes (to_be_bytes w32 size) after → sized_cell bytes size after ≡ Ok (c, rest) → (text : List ℕ) × (text ≡ cell_bytes c) × Takes bytes text rest
 sized_takes bytes size after c rest took e =
-    elim (cases_Bool (size == MINUS_ONE)) [
+    elim (cases_Bool (size == minus_one)) [
       | inl null ↦
-          let whole : Takes bytes (cell_bytes None) after = subst (λ (k : ℕ). Takes bytes (to_be_bytes w32 k) after) (eqb-true size MINUS_ONE null) took in
+          let whole : Takes bytes (cell_bytes None) after = subst (λ (k : ℕ). Takes bytes (to_be_bytes w32 k) after) (eqb-true size minus_one null) took in
           subst (λ (x : Option (List ℕ) × List ℕ). (text : List ℕ) × (text ≡ cell_bytes x.0) × Takes bytes text x.1) (ok_is (None, after) (c, rest) (rw null at e)) (cell_bytes None, refl, whole)
-      | inr other ↦ elim (cases_Bool (ltb BACK_LIMIT size)) [
+      | inr other ↦ elim (cases_Bool (ltb back_limit size)) [
         | inl below ↦ absurd (no_cell (length bytes) c rest (rw (other, below) at e))
         | inr low ↦ elim (cases_Bool (ltb (length after) size)) [
           | inl short ↦ absurd (no_cell (length after) c rest (rw (other, low, short) at e))
@@ -232,25 +232,25 @@ cell_takes bytes c rest fits e =
     let t = number_takes w32 (2 ^ 32) wide32 bytes a.0.0 a.0.1 fits a.1 in
     sized_takes bytes a.0.0 a.0.1 c rest t.0 a.2
 
-null_again : (rest : List ℕ) → cell_at (to_be_bytes w32 MINUS_ONE ++ rest) ≡ Ok (None, rest)
+null_again : (rest : List ℕ) → cell_at (to_be_bytes w32 minus_one ++ rest) ≡ Ok (None, rest)
 unfolding cell_at
-null_again rest = ap (λ r. r >>= λ size. sized_cell (to_be_bytes w32 MINUS_ONE ++ rest) size.0 size.1) (number_again w32 (2 ^ 32) wide32 MINUS_ONE rest (lit< tt))
+null_again rest = ap (λ r. r >>= λ size. sized_cell (to_be_bytes w32 minus_one ++ rest) size.0 size.1) (number_again w32 (2 ^ 32) wide32 minus_one rest (lit< tt))
 
-some_again : (size : ℕ) (text cell rest : List ℕ) → length cell ≡ size → size ≤ BACK_LIMIT → number_at w32 (text ++ (cell ++ rest)) ≡ Ok (size, cell ++ rest) → cell_at (text ++ (cell ++ rest)) ≡ Ok (Some cell, rest)
+some_again : (size : ℕ) (text cell rest : List ℕ) → length cell ≡ size → size ≤ back_limit → number_at w32 (text ++ (cell ++ rest)) ≡ Ok (size, cell ++ rest) → cell_at (text ++ (cell ++ rest)) ≡ Ok (Some cell, rest)
 unfolding cell_at
 some_again size text cell rest len le read =
-    let not_null : (size == MINUS_ONE) ≡ false = ne_eqb size MINUS_ONE (λ e. absurd (omega arith)) in
-    let low : ltb BACK_LIMIT size ≡ false = le-ltb _ _ le in
+    let not_null : (size == minus_one) ≡ false = ne_eqb size minus_one (λ e. absurd (omega arith)) in
+    let low : ltb back_limit size ≡ false = le-ltb _ _ le in
     let long : ltb (length (cell ++ rest)) size ≡ false = le-ltb _ _ (omega (arith, length-append cell rest)) in
     ap (λ r. r >>= λ s. sized_cell (text ++ (cell ++ rest)) s.0 s.1) read ∙ rw (not_null, low, long, take_at cell rest size len, drop_at cell rest size len) refl
 
 cell_again : (c : Option (List ℕ)) (text rest : List ℕ) → IsCell c text → cell_at (text ++ rest) ≡ Ok (c, rest)
 cell_again None text rest is = ap (λ (t : List ℕ). cell_at (t ++ rest)) is.0 ∙ null_again rest
 cell_again (Some cell) text rest is =
-    let le : length cell ≤ BACK_LIMIT = omega (arith, is.1, ap length is.0, length-append (to_be_bytes w32 (length cell)) cell) in
+    let le : length cell ≤ back_limit = omega (arith, is.1, ap length is.0, length-append (to_be_bytes w32 (length cell)) cell) in
     ap (λ (t : List ℕ). cell_at (t ++ rest)) is.0 ∙ ap cell_at (append_assoc (to_be_bytes w32 (length cell)) cell rest) ∙ some_again (length cell) (to_be_bytes w32 (length cell)) cell rest refl le (number_again w32 (2 ^ 32) wide32 (length cell) (cell ++ rest) (omega arith))
 
-cells_spelled : (cells : List (Option (List ℕ))) → length (flat_map cell_bytes cells) ≤ BACK_LIMIT → AreSpelled IsCell cells (flat_map cell_bytes cells)
+cells_spelled : (cells : List (Option (List ℕ))) → length (flat_map cell_bytes cells) ≤ back_limit → AreSpelled IsCell cells (flat_map cell_bytes cells)
 cells_spelled [] le = refl
 cells_spelled (c ∷ cells) le =
     let both = length-append (cell_bytes c) (flat_map cell_bytes cells) in
@@ -403,7 +403,7 @@ string_last s h = ap string_at (sym (append-nil (string s))) ∙ string_again s 
 counted : (f : List ℕ → Result (Back × List ℕ) ℕ) (a b : List ℕ) → a ≡ b → f a ≡ f b
 counted f a b e = ap f e
 
-body_again : (m : Back) (body : List ℕ) → is_spelled_back m ≡ true → HasNumbers m → IsBody m body → length body + 4 ≤ BACK_LIMIT → back_fields (kind_of m) body ≡ Ok (m, [])
+body_again : (m : Back) (body : List ℕ) → is_spelled_back m ≡ true → HasNumbers m → IsBody m body → length body + 4 ≤ back_limit → back_fields (kind_of m) body ≡ Ok (m, [])
 unfolding back_fields
 body_again back.AuthenticationOk body h n is le = ap (back_fields kinds.AuthenticationOk) is ∙ ap (λ r. r >>= λ rest. read_back back.AuthenticationOk rest) (zero_again [])
 body_again (back.BackendKeyData process key) body h n is le =
@@ -417,8 +417,8 @@ body_again (back.ParameterStatus name value) body h n is le =
     rw (is, string_again name (string value) good.0, string_last value good.1) refl
 body_again (back.ReadyForQuery status) body h n is le = rw is (rw (status_again status []) refl)
 body_again (back.RowDescription fields) body h n is le =
-    let good = and_parts (nat_le (length fields) COUNT_LIMIT) (list_all is_field fields) h in
-    let few : length fields < 2 ^ 16 = omega (arith, leb-true (length fields) COUNT_LIMIT good.0) in
+    let good = and_parts (nat_le (length fields) count_limit) (list_all is_field fields) h in
+    let few : length fields < 2 ^ 16 = omega (arith, leb-true (length fields) count_limit good.0) in
     let count = number_again w16 (2 ^ 16) wide16 (length fields) is.0 few in
     let read = times_again field_at IsSpelledField field_again fields is.0 [] (fields_spelled fields is.0 is.1 good.1 n) in
     let read_all : times field_at (length fields) is.0 ≡ Ok (fields, []) = ap (times field_at (length fields)) (sym (append-nil is.0)) ∙ read in
@@ -426,8 +426,8 @@ body_again (back.RowDescription fields) body h n is le =
     ∙ ap (λ r. r >>= λ c. times field_at c.0 c.1 >>= λ f. read_back (back.RowDescription f.0) f.1) count
     ∙ ap (λ r. r >>= λ f. read_back (back.RowDescription f.0) f.1) read_all
 body_again (back.DataRow cells) body h n is le =
-    let few : length cells < 2 ^ 16 = omega (arith, leb-true (length cells) COUNT_LIMIT h) in
-    let small : length (flat_map cell_bytes cells) ≤ BACK_LIMIT = omega (arith, le, ap length is, length-append (to_be_bytes w16 (length cells)) (flat_map cell_bytes cells)) in
+    let few : length cells < 2 ^ 16 = omega (arith, leb-true (length cells) count_limit h) in
+    let small : length (flat_map cell_bytes cells) ≤ back_limit = omega (arith, le, ap length is, length-append (to_be_bytes w16 (length cells)) (flat_map cell_bytes cells)) in
     let count = number_again w16 (2 ^ 16) wide16 (length cells) (flat_map cell_bytes cells) few in
     let read = times_again cell_at IsCell cell_again cells (flat_map cell_bytes cells) [] (cells_spelled cells small) in
     let read_all : times cell_at (length cells) (flat_map cell_bytes cells) ≡ Ok (cells, []) = ap (times cell_at (length cells)) (sym (append-nil (flat_map cell_bytes cells))) ∙ read in
@@ -486,9 +486,9 @@ body_takes kinds.RowDescription body m rest fits e =
     let are = fields_are b.0.0 tb.0 tb.1 in
     let both = Takes-then body (to_be_bytes w16 a.0.0) a.0.1 tb.0 b.0.1 ta.0 tb.2 in
     let counted : to_be_bytes w16 a.0.0 ++ tb.0 ≡ to_be_bytes w16 (length b.0.0) ++ tb.0 = ap (λ (k : ℕ). to_be_bytes w16 k ++ tb.0) (sym tb.3) in
-    let few : nat_le (length b.0.0) COUNT_LIMIT ≡ true = le-leb (length b.0.0) COUNT_LIMIT (omega (arith, tb.3, ta.1)) in
+    let few : nat_le (length b.0.0) count_limit ≡ true = le-leb (length b.0.0) count_limit (omega (arith, tb.3, ta.1)) in
     subst (λ (x : Back × List ℕ). BodyTaken kinds.RowDescription body x.0 x.1) (ok_is (back.RowDescription b.0.0, b.0.1) (m, rest) b.2)
-    (record { good = and_from (nat_le (length b.0.0) COUNT_LIMIT) (list_all is_field b.0.0) few are.1; numbers = are.2; front = to_be_bytes w16 a.0.0 ++ tb.0; laid_out = (tb.0, are.0, counted); taken = both.parts; byte = refl })
+    (record { good = and_from (nat_le (length b.0.0) count_limit) (list_all is_field b.0.0) few are.1; numbers = are.2; front = to_be_bytes w16 a.0.0 ++ tb.0; laid_out = (tb.0, are.0, counted); taken = both.parts; byte = refl })
 body_takes kinds.DataRow body m rest fits e =
     let a = bind_ok (number_at w16 body) (λ c. times cell_at c.0 c.1 >>= λ f. read_back (back.DataRow f.0) f.1) (m, rest) e in
     let b = bind_ok (times cell_at a.0.0 a.0.1) (λ f. read_back (back.DataRow f.0) f.1) (m, rest) a.2 in
@@ -496,7 +496,7 @@ body_takes kinds.DataRow body m rest fits e =
     let tb = times_take cell_at IsCellText cell_takes a.0.0 a.0.1 b.0.0 b.0.1 ta.0.rest_fits b.1 in
     let both = Takes-then body (to_be_bytes w16 a.0.0) a.0.1 tb.0 b.0.1 ta.0 tb.2 in
     let counted : to_be_bytes w16 a.0.0 ++ tb.0 ≡ to_be_bytes w16 (length b.0.0) ++ flat_map cell_bytes b.0.0 = ap₂ (λ (k : ℕ) (t : List ℕ). to_be_bytes w16 k ++ t) (sym tb.3) (cells_are b.0.0 tb.0 tb.1) in
-    let few : nat_le (length b.0.0) COUNT_LIMIT ≡ true = le-leb (length b.0.0) COUNT_LIMIT (omega (arith, tb.3, ta.1)) in
+    let few : nat_le (length b.0.0) count_limit ≡ true = le-leb (length b.0.0) count_limit (omega (arith, tb.3, ta.1)) in
     subst (λ (x : Back × List ℕ). BodyTaken kinds.DataRow body x.0 x.1) (ok_is (back.DataRow b.0.0, b.0.1) (m, rest) b.2)
     (record { good = few; numbers = tt; front = to_be_bytes w16 a.0.0 ++ tb.0; laid_out = counted; taken = both.parts; byte = refl })
 body_takes kinds.CommandComplete body m rest fits e =
@@ -515,11 +515,11 @@ body_takes kinds.ErrorResponse body m rest fits e =
 
 -- ---- whole messages
 
-whole_again : (m : Back) (body rest : List ℕ) → is_spelled_back m ≡ true → HasNumbers m → IsBody m body → length body + 4 ≤ BACK_LIMIT → back_of (message (back_byte m) body ++ rest) ≡ decoded.Whole m (length (message (back_byte m) body))
+whole_again : (m : Back) (body rest : List ℕ) → is_spelled_back m ≡ true → HasNumbers m → IsBody m body → length body + 4 ≤ back_limit → back_of (message (back_byte m) body ++ rest) ≡ decoded.Whole m (length (message (back_byte m) body))
 unfolding back_of back_head back_body
 whole_again m body rest h numbers is le =
     let read : (back_fields (kind_of m) body >>= ended) ≡ Ok m = ended_again (back_fields (kind_of m) body) m (body_again m body h numbers is le) in
-    message_again back_body BACK_LIMIT (back_byte m) (back_kind (back_byte m)) (kind_of m) m body rest (kind_again m) read le (lit< tt)
+    message_again back_body back_limit (back_byte m) (back_kind (back_byte m)) (kind_of m) m body rest (kind_again m) read le (lit< tt)
 
 pub back_again : (m : Back) (packet rest : List ℕ) → IsBack m packet → back_of (packet ++ rest) ≡ decoded.Whole m (length packet)
 back_again m packet rest is = rw is.bytes (whole_again m is.body rest is.spelled is.numbers is.laid_out is.within)
@@ -528,7 +528,7 @@ pub back_takes : (bytes : List ℕ) (m : Back) (n : ℕ) → IsBytes bytes → b
 unfolding back_of back_head back_body
 back_takes [] m n fits e = absurd cc
 back_takes (byte ∷ rest) m n fits e =
-    let h = message_takes back_body BACK_LIMIT byte (back_kind byte) rest m n (λ i. fits (suc i)) e in
+    let h = message_takes back_body back_limit byte (back_kind byte) rest m n (λ i. fits (suc i)) e in
     let read : (back_fields h.at h.body >>= ended) ≡ Ok m = h.read in
     let t = body_takes h.at h.body m [] h.body_fits (ended_ok (back_fields h.at h.body) m read) in
     let kind = kind_takes byte h.at h.is ∙ t.byte in
@@ -539,7 +539,7 @@ back_takes (byte ∷ rest) m n fits e =
         numbers = t.numbers;
         body = t.front;
         laid_out = t.laid_out;
-        within = subst (λ (x : List ℕ). length x + 4 ≤ BACK_LIMIT) same h.small;
+        within = subst (λ (x : List ℕ). length x + 4 ≤ back_limit) same h.small;
         bytes = h.spelled ∙ ap₂ message kind same;
       },
     )
@@ -550,9 +550,9 @@ pub back_kept : (bytes more : List ℕ) → is_more (back_of bytes) ≡ false �
 unfolding back_of back_head
 back_kept [] more h = absurd cc
 back_kept (byte ∷ rest) more h =
-    let told : is_more_head (message_head BACK_LIMIT (back_kind byte) rest) ≡ false = sym (is_more_packet back_body 5 (message_head BACK_LIMIT (back_kind byte) rest) (byte ∷ rest)) ∙ h in
-    let kept = head_kept BACK_LIMIT (back_kind byte) rest more told in
-    ap (λ (x : Head BackKind). packet_of back_body 5 x (byte ∷ rest ++ more)) kept ∙ packet_kept back_body 5 (message_head BACK_LIMIT (back_kind byte) rest) (byte ∷ rest) more (λ at n is. head_within BACK_LIMIT (back_kind byte) byte rest at n is)
+    let told : is_more_head (message_head back_limit (back_kind byte) rest) ≡ false = sym (is_more_packet back_body 5 (message_head back_limit (back_kind byte) rest) (byte ∷ rest)) ∙ h in
+    let kept = head_kept back_limit (back_kind byte) rest more told in
+    ap (λ (x : Head BackKind). packet_of back_body 5 x (byte ∷ rest ++ more)) kept ∙ packet_kept back_body 5 (message_head back_limit (back_kind byte) rest) (byte ∷ rest) more (λ at n is. head_within back_limit (back_kind byte) byte rest at n is)
 
 -- ---- one message has these bytes
 
@@ -600,7 +600,7 @@ back_bad bytes more m packet rest place cause bad is same =
 
 fields_laid_out : (fields : List Field) → AreSpelled IsFieldText fields (flat_map field_bytes fields)
 fields_laid_out [] = refl
-fields_laid_out (f ∷ fields) = (field_bytes f, flat_map field_bytes fields, refl, (0, 0, MINUS_ONE, refl), fields_laid_out fields)
+fields_laid_out (f ∷ fields) = (field_bytes f, flat_map field_bytes fields, refl, (0, 0, minus_one, refl), fields_laid_out fields)
 
 laid_out : (m : Back) → IsBody m (back_layout m)
 laid_out back.AuthenticationOk = refl
@@ -615,7 +615,7 @@ laid_out (back.ErrorResponse fields) = refl
 
 pub back_written : (m : Back) → HasNumbers m → back_refusal m ≡ None → IsBack m (back_bytes m)
 back_written m numbers h =
-    let fits = refusal_none (is_spelled_back m) (length (back_layout m) + 4) BACK_LIMIT h in
+    let fits = refusal_none (is_spelled_back m) (length (back_layout m) + 4) back_limit h in
     record { spelled = fits.0; numbers = numbers; body = back_layout m; laid_out = laid_out m; within = fits.1; bytes = refl }
 
 -- ---- bounds
@@ -623,9 +623,9 @@ back_written m numbers h =
 pub back_least : (m : Back) (n : ℕ) (bytes : List ℕ) → IsBack m (take n bytes) → 5 ≤ n
 back_least m n bytes is = omega (arith, ap length is.bytes, length-take n bytes, length-append (to_be_bytes w32 (length (is.body) + 4)) (is.body), wide32.len (length (is.body) + 4))
 
-pub back_more : (bytes : List ℕ) → is_more (back_of bytes) ≡ true → length bytes ≤ BACK_LIMIT
+pub back_more : (bytes : List ℕ) → is_more (back_of bytes) ≡ true → length bytes ≤ back_limit
 unfolding back_of back_head
 back_more [] h = omega arith
 back_more (byte ∷ rest) h =
-    let told : is_more_head (message_head BACK_LIMIT (back_kind byte) rest) ≡ true = sym (is_more_packet back_body 5 (message_head BACK_LIMIT (back_kind byte) rest) (byte ∷ rest)) ∙ h in
-    omega (arith, head_more BACK_LIMIT (back_kind byte) rest (omega arith) told)
+    let told : is_more_head (message_head back_limit (back_kind byte) rest) ≡ true = sym (is_more_packet back_body 5 (message_head back_limit (back_kind byte) rest) (byte ∷ rest)) ∙ h in
+    omega (arith, head_more back_limit (back_kind byte) rest (omega arith) told)

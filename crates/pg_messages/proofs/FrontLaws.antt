@@ -10,7 +10,7 @@ use Rattle.pg_messages.specs.declared.front.Front.{Front}
 use Rattle.pg_messages.specs.declared.front.Front.TheVariants as front
 use Rattle.pg_messages.specs.declared.front.FrontKind.{FrontKind}
 use Rattle.pg_messages.specs.declared.front.FrontKind.TheVariants as kinds
-use Rattle.pg_messages.specs.declared.front.TheConstants.{FRONT_LIMIT}
+use Rattle.pg_messages.specs.Limits.{front_limit}
 use Rattle.pg_messages.specs.declared.packet.Head.{Head}
 use Rattle.pg_messages.specs.Fields.{string_at}
 use Rattle.pg_messages.specs.Packet.{message_head, packet_of, is_more, is_more_head}
@@ -64,10 +64,10 @@ body_again : (m : Front) → is_spelled_front m ≡ true → front_body (kind_of
 unfolding front_body
 body_again m h = ended_again (front_fields (kind_of m) (front_layout m)) m (ap (front_fields (kind_of m)) (sym (append-nil (front_layout m))) ∙ fields_again m [] h)
 
-spelled_again : (m : Front) (rest : List ℕ) → is_spelled_front m ≡ true → length (front_layout m) + 4 ≤ FRONT_LIMIT → front_of (front_bytes m ++ rest) ≡ decoded.Whole m (length (front_bytes m))
+spelled_again : (m : Front) (rest : List ℕ) → is_spelled_front m ≡ true → length (front_layout m) + 4 ≤ front_limit → front_of (front_bytes m ++ rest) ≡ decoded.Whole m (length (front_bytes m))
 unfolding front_of front_head
 spelled_again m rest h le =
-    message_again front_body FRONT_LIMIT (front_byte m) (front_kind (front_byte m)) (kind_of m) m (front_layout m) rest (kind_again m) (body_again m h) le (lit< tt)
+    message_again front_body front_limit (front_byte m) (front_kind (front_byte m)) (kind_of m) m (front_layout m) rest (kind_again m) (body_again m h) le (lit< tt)
 
 pub front_again : (m : Front) (packet rest : List ℕ) → IsFront m packet → front_of (packet ++ rest) ≡ decoded.Whole m (length packet)
 front_again m packet rest is = rw is.bytes (spelled_again m rest is.spelled is.within)
@@ -93,13 +93,13 @@ pub front_takes : (bytes : List ℕ) (m : Front) (n : ℕ) → IsBytes bytes →
 unfolding front_of front_head
 front_takes [] m n fits e = absurd cc
 front_takes (byte ∷ rest) m n fits e =
-    let h = message_takes front_body FRONT_LIMIT byte (front_kind byte) rest m n (λ i. fits (suc i)) e in
+    let h = message_takes front_body front_limit byte (front_kind byte) rest m n (λ i. fits (suc i)) e in
     let t = body_takes h.at h.body m h.body_fits h.read in
     let kind = kind_takes byte h.at h.is ∙ t.2 in (
       h.within,
       record {
         spelled = t.1;
-        within = subst (λ (x : List ℕ). length x + 4 ≤ FRONT_LIMIT) t.0 h.small;
+        within = subst (λ (x : List ℕ). length x + 4 ≤ front_limit) t.0 h.small;
         bytes = h.spelled ∙ ap₂ message kind t.0;
       },
     )
@@ -110,9 +110,9 @@ pub front_kept : (bytes more : List ℕ) → is_more (front_of bytes) ≡ false 
 unfolding front_of front_head
 front_kept [] more h = absurd cc
 front_kept (byte ∷ rest) more h =
-    let told : is_more_head (message_head FRONT_LIMIT (front_kind byte) rest) ≡ false = sym (is_more_packet front_body 5 (message_head FRONT_LIMIT (front_kind byte) rest) (byte ∷ rest)) ∙ h in
-    let kept = head_kept FRONT_LIMIT (front_kind byte) rest more told in
-    ap (λ (x : Head FrontKind). packet_of front_body 5 x (byte ∷ rest ++ more)) kept ∙ packet_kept front_body 5 (message_head FRONT_LIMIT (front_kind byte) rest) (byte ∷ rest) more (λ at n is. head_within FRONT_LIMIT (front_kind byte) byte rest at n is)
+    let told : is_more_head (message_head front_limit (front_kind byte) rest) ≡ false = sym (is_more_packet front_body 5 (message_head front_limit (front_kind byte) rest) (byte ∷ rest)) ∙ h in
+    let kept = head_kept front_limit (front_kind byte) rest more told in
+    ap (λ (x : Head FrontKind). packet_of front_body 5 x (byte ∷ rest ++ more)) kept ∙ packet_kept front_body 5 (message_head front_limit (front_kind byte) rest) (byte ∷ rest) more (λ at n is. head_within front_limit (front_kind byte) byte rest at n is)
 
 -- ---- one message has these bytes
 
@@ -160,7 +160,7 @@ front_bad bytes more m packet rest place cause bad is same =
 
 pub front_written : (m : Front) → front_refusal m ≡ None → IsFront m (front_bytes m)
 front_written m h =
-    let fits = refusal_none (is_spelled_front m) (length (front_layout m) + 4) FRONT_LIMIT h in
+    let fits = refusal_none (is_spelled_front m) (length (front_layout m) + 4) front_limit h in
     record { spelled = fits.0; within = fits.1; bytes = refl }
 
 -- ---- bounds
@@ -168,9 +168,9 @@ front_written m h =
 pub front_least : (m : Front) (n : ℕ) (bytes : List ℕ) → IsFront m (take n bytes) → 5 ≤ n
 front_least m n bytes is = omega (arith, ap length is.bytes, length-take n bytes, length-append (to_be_bytes w32 (length (front_layout m) + 4)) (front_layout m), wide32.len (length (front_layout m) + 4))
 
-pub front_more : (bytes : List ℕ) → is_more (front_of bytes) ≡ true → length bytes ≤ FRONT_LIMIT
+pub front_more : (bytes : List ℕ) → is_more (front_of bytes) ≡ true → length bytes ≤ front_limit
 unfolding front_of front_head
 front_more [] h = omega arith
 front_more (byte ∷ rest) h =
-    let told : is_more_head (message_head FRONT_LIMIT (front_kind byte) rest) ≡ true = sym (is_more_packet front_body 5 (message_head FRONT_LIMIT (front_kind byte) rest) (byte ∷ rest)) ∙ h in
-    omega (arith, head_more FRONT_LIMIT (front_kind byte) rest (omega arith) told)
+    let told : is_more_head (message_head front_limit (front_kind byte) rest) ≡ true = sym (is_more_packet front_body 5 (message_head front_limit (front_kind byte) rest) (byte ∷ rest)) ∙ h in
+    omega (arith, head_more front_limit (front_kind byte) rest (omega arith) told)

@@ -5,5 +5,6 @@ pub mod Lengths
 pub mod Loops
 pub mod MessageLaws
 pub mod Packets
+pub mod Passes
 pub mod SequenceLaws
 pub mod StartupLaws

@@ -4,7 +4,7 @@ use Rattle.std.proofs.Common.{◌≡◌, ℕ, suc, ◌+◌, ◌-◌, ◌<◌, �
 use Rattle.std.proofs.lemmas.List.{append-nil}
 use Rattle.pg_messages.specs.declared.fields.Fault.{Fault}
 use Rattle.pg_messages.specs.declared.fields.Fault.TheVariants as fault
-use Rattle.pg_messages.specs.Fields.{◌>>=◌, Fails, times, until_end}
+use Rattle.pg_messages.specs.Fields.{◌>>=◌, Fails, behind, times, until_end}
 
 abbrev pub joined : {X : Type 0} → List X → Result (List X × List ℕ) ℕ → Result (List X × List ℕ) ℕ
 joined front read = read >>= λ x. Ok (front ++ x.0, x.1)
@@ -47,6 +47,44 @@ until_out next front n i bytes all le so_far =
     let one : joined front (until_end next (n - i) bytes) ≡ Err (length bytes) = rw k refl in
     sym so_far ∙ one
 
+-- ---- up to an end, passed over
+
+behind-cons : {X : Type 0} (x : X) (others : Result (List X × List ℕ) ℕ) → behind (others >>= λ y. Ok (x ∷ y.0, y.1)) ≡ behind others
+behind-cons x (Ok y) = refl
+behind-cons x (Err left) = refl
+
+no_more : {X : Type 0} (read : Result (List X × List ℕ) ℕ) (left : ℕ) → behind read ≡ Err left → read ≡ Err left
+no_more (Ok x) left h = absurd cc
+no_more (Err n) left h = cc
+
+pub passed_fault : {X : Type 0} (next : List ℕ → Result (Option X × List ℕ) ℕ) (n i : ℕ) (bytes : List ℕ) (all : Result (List X × List ℕ) ℕ) (left : ℕ) → i < n → next bytes ≡ Err left → behind (until_end next (n - i) bytes) ≡ behind all → all ≡ Err left
+unfolding until_end
+passed_fault next n i bytes all left lt h so_far =
+    let k : n - i ≡ suc (n - (i + 1)) = omega arith in
+    let one : behind (until_end next (n - i) bytes) ≡ Err left = rw (k, h) refl in
+    no_more all left (sym so_far ∙ one)
+
+pub passed_none : {X : Type 0} (next : List ℕ → Result (Option X × List ℕ) ℕ) (n i : ℕ) (bytes after : List ℕ) (all : Result (List X × List ℕ) ℕ) → i < n → next bytes ≡ Ok (None, after) → behind (until_end next (n - i) bytes) ≡ behind all → behind all ≡ Ok after
+unfolding until_end
+passed_none next n i bytes after all lt h so_far =
+    let k : n - i ≡ suc (n - (i + 1)) = omega arith in
+    let one : behind (until_end next (n - i) bytes) ≡ Ok after = rw (k, h) refl in
+    sym so_far ∙ one
+
+pub passed_some : {X : Type 0} (next : List ℕ → Result (Option X × List ℕ) ℕ) (n i : ℕ) (bytes : List ℕ) (all : Result (List X × List ℕ) ℕ) (x : X) (after : List ℕ) → i < n → next bytes ≡ Ok (Some x, after) → behind (until_end next (n - i) bytes) ≡ behind all → behind (until_end next (n - (i + 1)) after) ≡ behind all
+unfolding until_end
+passed_some next n i bytes all x after lt h so_far =
+    let k : n - i ≡ suc (n - (i + 1)) = omega arith in
+    let one : behind (until_end next (n - i) bytes) ≡ behind (until_end next (n - (i + 1)) after >>= λ y. Ok (x ∷ y.0, y.1)) = rw (k, h) refl in
+    sym (behind-cons x (until_end next (n - (i + 1)) after)) ∙ sym one ∙ so_far
+
+pub passed_out : {X : Type 0} (next : List ℕ → Result (Option X × List ℕ) ℕ) (n i : ℕ) (bytes : List ℕ) (all : Result (List X × List ℕ) ℕ) → n ≤ i → behind (until_end next (n - i) bytes) ≡ behind all → all ≡ Err (length bytes)
+unfolding until_end
+passed_out next n i bytes all le so_far =
+    let k : n - i ≡ 0 = omega arith in
+    let one : behind (until_end next (n - i) bytes) ≡ Err (length bytes) = rw k refl in
+    no_more all (length bytes) (sym so_far ∙ one)
+
 -- ---- so many
 
 pub times_fault : {X : Type 0} (read : List ℕ → Result (X × List ℕ) ℕ) (front : List X) (n i : ℕ) (bytes : List ℕ) (all : Result (List X × List ℕ) ℕ) (e : Fault) → i < n → Fails e (read bytes) → joined front (times read (n - i) bytes) ≡ all → Fails e all
@@ -70,3 +108,26 @@ times_out read front n i bytes all le so_far =
     let k : n - i ≡ 0 = omega arith in
     let one : joined front (times read (n - i) bytes) ≡ Ok (front ++ [], bytes) = rw k refl in
     sym so_far ∙ one ∙ ap (listed bytes) (append-nil front)
+
+-- ---- so many, passed over
+
+pub counted_fault : {X : Type 0} (read : List ℕ → Result (X × List ℕ) ℕ) (n i : ℕ) (bytes : List ℕ) (all : Result (List X × List ℕ) ℕ) (left : ℕ) → i < n → read bytes ≡ Err left → behind (times read (n - i) bytes) ≡ behind all → all ≡ Err left
+unfolding times
+counted_fault read n i bytes all left lt h so_far =
+    let k : n - i ≡ suc (n - (i + 1)) = omega arith in
+    let one : behind (times read (n - i) bytes) ≡ Err left = rw (k, h) refl in
+    no_more all left (sym so_far ∙ one)
+
+pub counted_one : {X : Type 0} (read : List ℕ → Result (X × List ℕ) ℕ) (n i : ℕ) (bytes : List ℕ) (all : Result (List X × List ℕ) ℕ) (x : X) (after : List ℕ) → i < n → read bytes ≡ Ok (x, after) → behind (times read (n - i) bytes) ≡ behind all → behind (times read (n - (i + 1)) after) ≡ behind all
+unfolding times
+counted_one read n i bytes all x after lt h so_far =
+    let k : n - i ≡ suc (n - (i + 1)) = omega arith in
+    let one : behind (times read (n - i) bytes) ≡ behind (times read (n - (i + 1)) after >>= λ y. Ok (x ∷ y.0, y.1)) = rw (k, h) refl in
+    sym (behind-cons x (times read (n - (i + 1)) after)) ∙ sym one ∙ so_far
+
+pub counted_out : {X : Type 0} (read : List ℕ → Result (X × List ℕ) ℕ) (n i : ℕ) (bytes : List ℕ) (all : Result (List X × List ℕ) ℕ) → n ≤ i → behind (times read (n - i) bytes) ≡ behind all → behind all ≡ Ok bytes
+unfolding times
+counted_out read n i bytes all le so_far =
+    let k : n - i ≡ 0 = omega arith in
+    let one : behind (times read (n - i) bytes) ≡ Ok bytes = rw k refl in
+    sym so_far ∙ one

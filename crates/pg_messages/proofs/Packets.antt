@@ -1,5 +1,6 @@
 -- What was read of a body is the answer on its packet.
 use Rattle.std.proofs.Common.{◌≡◌, ℕ, Bool, true, false, List, take, drop, Result, Ok, Err, refl, ap, subst}
+use Rattle.std.specs.Result.{is_ok}
 use Rattle.pg_messages.specs.declared.decoded.Decoded.{Decoded}
 use Rattle.pg_messages.specs.declared.decoded.Decoded.TheVariants as decoded
 use Rattle.pg_messages.specs.declared.fields.Fault.{Fault}
@@ -7,7 +8,7 @@ use Rattle.pg_messages.specs.declared.fields.Fault.TheVariants as fault
 use Rattle.pg_messages.specs.Fields.{Gives}
 use Rattle.pg_messages.specs.declared.packet.Head.{Head}
 use Rattle.pg_messages.specs.declared.packet.Head.TheVariants as head
-use Rattle.pg_messages.specs.Packet.{Answers, IfWhole, IfMemory, TakesMemory, decoded_as, decoded_from, packet_of, is_more, is_more_head}
+use Rattle.pg_messages.specs.Packet.{Answers, IfWhole, IfMemory, TakesMemory, decoded_as, decoded_from, packet_of, is_more, is_more_head, is_whole}
 
 pub answers_decoded : {T : Type 0} (n : ℕ) (result : Result T Fault) (read : Result T ℕ) → Gives (λ x. x) result read → Answers (decoded_from n result) (decoded_as n read)
 answers_decoded n (Ok x) read h = ap (decoded_as n) h
@@ -37,6 +38,16 @@ pub memory_decoded : {T : Type 0} (n : ℕ) (result : Result T Fault) (takes : B
 memory_decoded n (Ok x) takes h = tt
 memory_decoded n (Err (fault.Before left)) takes h = tt
 memory_decoded n (Err fault.Memory) takes h = h
+
+whole_decoded : {T : Type 0} (n : ℕ) (read : Result T ℕ) → is_ok read ≡ true → is_whole (decoded_as n read) ≡ true
+whole_decoded n (Ok x) h = refl
+whole_decoded n (Err left) h = absurd cc
+
+-- where memory runs out in a body that is read, the packet is whole
+pub sound_decoded : {T : Type 0} (n : ℕ) (result : Result T Fault) (read : Result T ℕ) → TakesMemory result (is_ok read) → IfMemory (decoded_from n result) (is_whole (decoded_as n read) ≡ true)
+sound_decoded n (Ok x) read h = tt
+sound_decoded n (Err (fault.Before left)) read h = tt
+sound_decoded n (Err fault.Memory) read h = whole_decoded n read h
 
 pub takes_any : {T : Type 0} (result : Result T Fault) → TakesMemory result true
 takes_any (Ok x) = tt

@@ -16,11 +16,11 @@ use Rattle.pg_messages.specs.declared.startup.Startup.{Startup}
 use Rattle.pg_messages.specs.declared.startup.Startup.TheVariants as startup
 use Rattle.pg_messages.specs.declared.startup.StartupKind.{StartupKind}
 use Rattle.pg_messages.specs.declared.startup.StartupKind.TheVariants as kinds
-use Rattle.pg_messages.specs.declared.startup.TheConstants.{STARTUP_CODE, STARTUP_LIMIT}
+use Rattle.pg_messages.specs.Limits.{protocol_code, startup_limit}
 use Rattle.pg_messages.specs.Fields.{◌>>=◌, string_at, until_end}
 use Rattle.pg_messages.specs.Packet.{packet_of, is_more, is_more_head}
 use Rattle.pg_messages.specs.Spelling.{IsBytes, is_string, string}
-use Rattle.pg_messages.specs.StartupReading.{startup_kind, has_length, coded_head, sized_head, startup_head, named_pair, next_pair, startup_fields, startup_of}
+use Rattle.pg_messages.specs.StartupReading.{startup_kind, has_length, coded_head, sized_head, startup_head, pair_of, named_pair, next_pair, startup_fields, startup_of}
 use Rattle.pg_messages.specs.StartupSpelling.{startup_code, pair_bytes, startup_layout, startup_packet, startup_bytes, startup_refusal, is_pair, is_spelled_startup, IsRest, IsStartup}
 use Rattle.pg_messages.proofs.FieldLaws.{bind_ok, ok_is, Takes, Takes-then, string_again, string_takes, guarded_ok, wide32, IsBytes-take, IsBytes-drop}
 use Rattle.pg_messages.proofs.MessageLaws.{packet_takes, packet_kept}
@@ -29,9 +29,6 @@ use Rattle.pg_messages.proofs.Packets.{is_more_packet}
 use Rattle.pg_messages.proofs.SequenceLaws.{NextTakes, until_takes, until_again}
 
 -- ---- pairs
-
-abbrev pair_of : List ℕ → List ℕ → Pair
-pair_of name value = record { name = name; value = value }
 
 abbrev IsEnd : List ℕ → Type 0
 IsEnd rest = rest ≡ []
@@ -84,7 +81,7 @@ kind_of (startup.Other code) = kinds.Other code
 
 kind_again : (m : Startup) → is_spelled_startup m ≡ true → startup_kind (startup_code m) ≡ kind_of m
 kind_again (startup.Start pairs) h = refl
-kind_again (startup.Other code) h = let other : (code == STARTUP_CODE) ≡ false = not-true (code == STARTUP_CODE) h in rw other refl
+kind_again (startup.Other code) h = let other : (code == protocol_code) ≡ false = not-true (code == protocol_code) h in rw other refl
 
 count-pairs : (pairs : List Pair) → length pairs ≤ length (flat_map pair_bytes pairs)
 count-pairs [] = omega arith
@@ -105,10 +102,10 @@ rest_length (startup.Other code) rest is = refl
 other_is : (a b : ℕ) → kinds.Other a ≡ kinds.Other b → a ≡ b
 other_is a b e = cc
 
-kind_is : (code : ℕ) (kind : StartupKind) → startup_kind code ≡ kind → ((code ≡ STARTUP_CODE) × (kind ≡ kinds.Start)) ⊎ (((code == STARTUP_CODE) ≡ false) × (kind ≡ kinds.Other code))
+kind_is : (code : ℕ) (kind : StartupKind) → startup_kind code ≡ kind → ((code ≡ protocol_code) × (kind ≡ kinds.Start)) ⊎ (((code == protocol_code) ≡ false) × (kind ≡ kinds.Other code))
 kind_is code kind e =
-    elim (cases_Bool (code == STARTUP_CODE)) [
-      | inl is ↦ inl (eqb-true code STARTUP_CODE is, sym (rw is at e))
+    elim (cases_Bool (code == protocol_code)) [
+      | inl is ↦ inl (eqb-true code protocol_code is, sym (rw is at e))
       | inr other ↦ inr (other, sym (rw other at e))
     ]
 
@@ -118,14 +115,14 @@ rest_takes kinds.Start code rest m fits announced e =
     let a = bind_ok (until_end next_pair (length rest) rest) (λ pairs. Ok (startup.Start pairs.0)) m e in
     let all = until_takes next_pair pair_bytes is_pair IsEnd pair_takes (length rest) rest a.0.0 a.0.1 fits a.1 in
     let whole : rest ≡ flat_map pair_bytes a.0.0 ++ 0 ∷ [] = all.taken.parts ∙ ap (λ (t : List ℕ). (flat_map pair_bytes a.0.0 ++ 0 ∷ []) ++ t) all.last ∙ append-nil (flat_map pair_bytes a.0.0 ++ 0 ∷ []) in
-    let is : STARTUP_CODE ≡ code = elim (kind_is code kinds.Start announced) [ inl k ↦ sym k.0 | inr k ↦ absurd (cc k.1) ] in
+    let is : protocol_code ≡ code = elim (kind_is code kinds.Start announced) [ inl k ↦ sym k.0 | inr k ↦ absurd (cc k.1) ] in
     subst (λ (y : Startup). IsRest y rest × (startup_code y ≡ code) × (is_spelled_startup y ≡ true)) (ok_is (startup.Start a.0.0) m a.2) (whole, is, all.good_all)
 rest_takes (kinds.Other other) code rest m fits announced e =
     elim (kind_is code (kinds.Other other) announced) [
       | inl k ↦ absurd (cc k.1)
       | inr k ↦
           let same : other ≡ code = other_is other code k.1 in
-          subst (λ (y : Startup). IsRest y rest × (startup_code y ≡ code) × (is_spelled_startup y ≡ true)) (ok_is (startup.Other other) m e) (tt, same, ap not (ap (λ (j : ℕ). j == STARTUP_CODE) same ∙ k.0))
+          subst (λ (y : Startup). IsRest y rest × (startup_code y ≡ code) × (is_spelled_startup y ≡ true)) (ok_is (startup.Other other) m e) (tt, same, ap not (ap (λ (j : ℕ). j == protocol_code) same ∙ k.0))
     ]
 
 -- ---- the head
@@ -133,14 +130,14 @@ rest_takes (kinds.Other other) code rest m fits announced e =
 abbrev packet : StartupKind → ℕ → Head StartupKind
 packet kind n = head.Packet kind n
 
-head_at : (length_text code_text rest : List ℕ) (n code : ℕ) → length length_text ≡ 4 → length code_text ≡ 4 → from_be_bytes w32 length_text ≡ n → from_be_bytes w32 code_text ≡ code → 8 ≤ n → n ≤ STARTUP_LIMIT → n ≤ 8 + length rest → has_length (startup_kind code) n ≡ true → startup_head (length_text ++ (code_text ++ rest)) ≡ packet (startup_kind code) n
+head_at : (length_text code_text rest : List ℕ) (n code : ℕ) → length length_text ≡ 4 → length code_text ≡ 4 → from_be_bytes w32 length_text ≡ n → from_be_bytes w32 code_text ≡ code → 8 ≤ n → n ≤ startup_limit → n ≤ 8 + length rest → has_length (startup_kind code) n ≡ true → startup_head (length_text ++ (code_text ++ rest)) ≡ packet (startup_kind code) n
 unfolding startup_head
 head_at length_text code_text rest n code len_a len_b is_n is_code low high within fits =
     let all = length-append length_text (code_text ++ rest) in
     let parts = length-append code_text rest in
     let there : ltb (length (length_text ++ (code_text ++ rest))) 4 ≡ false = le-ltb _ _ (omega (arith, all)) in
     let not_low : ltb n 8 ≡ false = le-ltb _ _ low in
-    let not_high : ltb STARTUP_LIMIT n ≡ false = le-ltb _ _ high in
+    let not_high : ltb startup_limit n ≡ false = le-ltb _ _ high in
     let coded : ltb (length (code_text ++ rest)) 4 ≡ false = le-ltb _ _ (omega (arith, parts)) in
     let whole : ltb (length (length_text ++ (code_text ++ rest))) n ≡ false = le-ltb _ _ (omega (arith, all, parts)) in
     rw (there, take_at length_text (code_text ++ rest) 4 len_a, drop_at length_text (code_text ++ rest) 4 len_a, is_n, not_low, not_high, coded, take_at code_text rest 4 len_b, is_code, fits, whole) refl
@@ -152,7 +149,7 @@ packet_at kind m length_text code_text rest more n len_a len_b is read =
     let behind : drop 8 ((length_text ++ code_text) ++ rest) ≡ rest = drop_at (length_text ++ code_text) rest 8 (omega (arith, front)) in
     rw (take_at ((length_text ++ code_text) ++ rest) more n whole, behind, read) refl
 
-spelled_again : (m : Startup) (rest more : List ℕ) → is_spelled_startup m ≡ true → startup_code m < 2 ^ 32 → IsRest m rest → length rest + 8 ≤ STARTUP_LIMIT → startup_of (startup_packet (startup_code m) rest ++ more) ≡ decoded.Whole m (length (startup_packet (startup_code m) rest))
+spelled_again : (m : Startup) (rest more : List ℕ) → is_spelled_startup m ≡ true → startup_code m < 2 ^ 32 → IsRest m rest → length rest + 8 ≤ startup_limit → startup_of (startup_packet (startup_code m) rest ++ more) ≡ decoded.Whole m (length (startup_packet (startup_code m) rest))
 unfolding startup_of
 spelled_again m rest more h code is le =
     let n = length rest + 8 in
@@ -173,7 +170,7 @@ startup_again m packet more is = rw is.bytes (spelled_again m is.rest more is.sp
 -- what the head of a whole packet tells
 record IsCoded (kind : StartupKind) (n : ℕ) (bytes : List ℕ) : Type 0 where
   pub low : 8 ≤ n
-  pub high : n ≤ STARTUP_LIMIT
+  pub high : n ≤ startup_limit
   pub there : n ≤ length bytes
   pub n_is : n ≡ from_be_bytes w32 (take 4 bytes)
   pub kind_is : startup_kind (from_be_bytes w32 (take 4 (drop 4 bytes))) ≡ kind
@@ -199,11 +196,11 @@ coded_takes at kind size n bytes e =
       | inr other ↦ (let no : bad ≡ packet kind n = rw other at e in absurd cc)
     ]
 
-sized_takes : (size : ℕ) (rest bytes : List ℕ) (kind : StartupKind) (n : ℕ) → sized_head size rest bytes ≡ packet kind n → (8 ≤ size) × (size ≤ STARTUP_LIMIT) × (coded_head (startup_kind (from_be_bytes w32 (take 4 rest))) size bytes ≡ packet kind n)
+sized_takes : (size : ℕ) (rest bytes : List ℕ) (kind : StartupKind) (n : ℕ) → sized_head size rest bytes ≡ packet kind n → (8 ≤ size) × (size ≤ startup_limit) × (coded_head (startup_kind (from_be_bytes w32 (take 4 rest))) size bytes ≡ packet kind n)
 sized_takes size rest bytes kind n e =
     elim (cases_Bool (ltb size 8)) [
       | inl low ↦ (let no : bad ≡ packet kind n = rw low at e in absurd cc)
-      | inr low ↦ elim (cases_Bool (ltb STARTUP_LIMIT size)) [
+      | inr low ↦ elim (cases_Bool (ltb startup_limit size)) [
         | inl high ↦ (let no : bad ≡ packet kind n = rw (low, high) at e in absurd cc)
         | inr high ↦ elim (cases_Bool (ltb (length rest) 4)) [
           | inl short ↦ (let no : more_head ≡ packet kind n = rw (low, high, short) at e in absurd cc)
@@ -275,7 +272,7 @@ sized_kept : (size : ℕ) (rest bytes more : List ℕ) → is_more_head (sized_h
 sized_kept size rest bytes more h =
     elim (cases_Bool (ltb size 8)) [
       | inl low ↦ rw low refl
-      | inr low ↦ elim (cases_Bool (ltb STARTUP_LIMIT size)) [
+      | inr low ↦ elim (cases_Bool (ltb startup_limit size)) [
         | inl high ↦ rw (low, high) refl
         | inr high ↦ elim (cases_Bool (ltb (length rest) 4)) [
           | inl short ↦ (let no : true ≡ false = rw (low, high, short) at h in absurd cc)
@@ -356,7 +353,7 @@ laid_out (startup.Other code) = tt
 
 pub startup_written : (m : Startup) → startup_code m < 2 ^ 32 → startup_refusal m ≡ None → IsStartup m (startup_bytes m)
 startup_written m code h =
-    let fits = refusal_none (is_spelled_startup m) (length (startup_layout m) + 8) STARTUP_LIMIT h in
+    let fits = refusal_none (is_spelled_startup m) (length (startup_layout m) + 8) startup_limit h in
     record { spelled = fits.0; code = code; rest = startup_layout m; laid_out = laid_out m; within = fits.1; bytes = refl }
 
 -- ---- bounds
@@ -375,22 +372,22 @@ coded_more at size bytes h =
       | inr other ↦ (let no : false ≡ true = rw other at h in absurd cc)
     ]
 
-sized_more : (size : ℕ) (rest bytes : List ℕ) → length bytes ≤ length rest + 4 → is_more_head (sized_head size rest bytes) ≡ true → length bytes < STARTUP_LIMIT
+sized_more : (size : ℕ) (rest bytes : List ℕ) → length bytes ≤ length rest + 4 → is_more_head (sized_head size rest bytes) ≡ true → length bytes < startup_limit
 sized_more size rest bytes parts h =
     elim (cases_Bool (ltb size 8)) [
       | inl low ↦ (let no : false ≡ true = rw low at h in absurd cc)
-      | inr low ↦ elim (cases_Bool (ltb STARTUP_LIMIT size)) [
+      | inr low ↦ elim (cases_Bool (ltb startup_limit size)) [
         | inl high ↦ (let no : false ≡ true = rw (low, high) at h in absurd cc)
         | inr high ↦ elim (cases_Bool (ltb (length rest) 4)) [
           | inl short ↦ omega (arith, ltb-true (length rest) 4 short)
           | inr long ↦
               let coded = coded_more (startup_kind (from_be_bytes w32 (take 4 rest))) size bytes (rw (low, high, long) at h) in
-              omega (arith, coded, ltb-false STARTUP_LIMIT size high)
+              omega (arith, coded, ltb-false startup_limit size high)
         ]
       ]
     ]
 
-pub startup_more : (bytes : List ℕ) → is_more (startup_of bytes) ≡ true → length bytes < STARTUP_LIMIT
+pub startup_more : (bytes : List ℕ) → is_more (startup_of bytes) ≡ true → length bytes < startup_limit
 unfolding startup_of startup_head
 startup_more bytes h =
     let told : is_more_head (startup_head bytes) ≡ true = sym (is_more_packet startup_fields 8 (startup_head bytes) bytes) ∙ h in

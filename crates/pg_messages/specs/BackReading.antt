@@ -9,7 +9,7 @@ use Rattle.pg_messages.specs.declared.back.ErrorField.{ErrorField}
 use Rattle.pg_messages.specs.declared.back.Field.{Field}
 use Rattle.pg_messages.specs.declared.back.Status.{Status}
 use Rattle.pg_messages.specs.declared.back.Status.TheVariants as status
-use Rattle.pg_messages.specs.declared.back.TheConstants.{BACK_LIMIT, MINUS_ONE}
+use Rattle.pg_messages.specs.Limits.{back_limit, minus_one}
 use Rattle.pg_messages.specs.declared.decoded.Decoded.{Decoded}
 use Rattle.pg_messages.specs.declared.packet.Head.{Head}
 use Rattle.pg_messages.specs.declared.packet.Head.TheVariants as head
@@ -32,7 +32,7 @@ back_kind byte =
 
 unfoldable pub back_head : List ℕ → Head BackKind
 back_head [] = head.More
-back_head (byte ∷ rest) = message_head BACK_LIMIT (back_kind byte) rest
+back_head (byte ∷ rest) = message_head back_limit (back_kind byte) rest
 
 abbrev pub zero_at : List ℕ → Result (List ℕ) ℕ
 zero_at bytes = do
@@ -71,7 +71,7 @@ field_at bytes = do
 -- is a signed number: -1 is a null cell, and those below are none.
 abbrev pub sized_cell : List ℕ → ℕ → List ℕ → Result (Option (List ℕ) × List ℕ) ℕ
 sized_cell bytes size rest =
-    if size == MINUS_ONE then Ok (None, rest) else if nat_lt BACK_LIMIT size then Err (length bytes) else if nat_lt (length rest) size then Err (length rest) else Ok (Some (take size rest), drop size rest)
+    if size == minus_one then Ok (None, rest) else if nat_lt back_limit size then Err (length bytes) else if nat_lt (length rest) size then Err (length rest) else Ok (Some (take size rest), drop size rest)
 
 unfoldable pub cell_at : List ℕ → Result (Option (List ℕ) × List ℕ) ℕ
 cell_at bytes = number_at w32 bytes >>= λ size. sized_cell bytes size.0 size.1

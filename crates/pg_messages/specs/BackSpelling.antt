@@ -8,7 +8,7 @@ use Rattle.pg_messages.specs.declared.back.ErrorField.{ErrorField}
 use Rattle.pg_messages.specs.declared.back.Field.{Field}
 use Rattle.pg_messages.specs.declared.back.Status.{Status}
 use Rattle.pg_messages.specs.declared.back.Status.TheVariants as status
-use Rattle.pg_messages.specs.declared.back.TheConstants.{BACK_LIMIT, COUNT_LIMIT, MINUS_ONE}
+use Rattle.pg_messages.specs.Limits.{back_limit, count_limit, minus_one}
 use Rattle.pg_messages.specs.declared.encode_refused.EncodeRefused.{EncodeRefused}
 use Rattle.pg_messages.specs.Spelling.{AreSpelled, is_string, string, message, refusal_of}
 
@@ -37,11 +37,11 @@ field_with table attribute modifier f =
 
 -- The encoder tells no table, no attribute and no modifier, which -1 stands for.
 abbrev pub field_bytes : Field → List ℕ
-field_bytes f = field_with 0 0 MINUS_ONE f
+field_bytes f = field_with 0 0 minus_one f
 
 -- a length and so many bytes, or the length -1
 abbrev pub cell_bytes : Option (List ℕ) → List ℕ
-cell_bytes None = to_be_bytes w32 MINUS_ONE
+cell_bytes None = to_be_bytes w32 minus_one
 cell_bytes (Some text) = to_be_bytes w32 (length text) ++ text
 
 abbrev pub error_field_bytes : ErrorField → List ℕ
@@ -72,14 +72,14 @@ is_spelled_back back.AuthenticationOk = true
 is_spelled_back (back.BackendKeyData process key) = true
 is_spelled_back (back.ParameterStatus name value) = is_string name && is_string value
 is_spelled_back (back.ReadyForQuery status) = true
-is_spelled_back (back.RowDescription fields) = nat_le (length fields) COUNT_LIMIT && list_all is_field fields
-is_spelled_back (back.DataRow cells) = nat_le (length cells) COUNT_LIMIT
+is_spelled_back (back.RowDescription fields) = nat_le (length fields) count_limit && list_all is_field fields
+is_spelled_back (back.DataRow cells) = nat_le (length cells) count_limit
 is_spelled_back (back.CommandComplete tag) = is_string tag
 is_spelled_back back.EmptyQueryResponse = true
 is_spelled_back (back.ErrorResponse fields) = list_all is_error_field fields
 
 abbrev pub back_refusal : Back → Option EncodeRefused
-back_refusal m = refusal_of (is_spelled_back m) (length (back_layout m) + 4) BACK_LIMIT
+back_refusal m = refusal_of (is_spelled_back m) (length (back_layout m) + 4) back_limit
 
 -- the text of a field, whatever its table, its attribute and its modifier
 abbrev pub IsFieldText : Field → List ℕ → Type 0
@@ -119,5 +119,5 @@ pub record IsBack (m : Back) (packet : List ℕ) : Type 0 where
   pub numbers : HasNumbers m
   pub body : List ℕ
   pub laid_out : IsBody m body
-  pub within : length body + 4 ≤ BACK_LIMIT
+  pub within : length body + 4 ≤ back_limit
   pub bytes : packet ≡ message (back_byte m) body

@@ -11,6 +11,11 @@ abbrev pub ◌>>=◌ : {A B : Type 0} → Result A ℕ → (A → Result B ℕ) 
 (Ok x) >>= f = f x
 (Err left) >>= f = Err left
 
+-- What a reader that takes no memory returned, seen by view, is what reading gives.
+abbrev pub Reads : {X Y : Type 0} → (X → Y) → Result X ℕ → Result Y ℕ → Type 0
+Reads view (Ok x) read = read ≡ Ok (view x)
+Reads view (Err left) read = read ≡ Err left
+
 -- What a reader returned, seen by view, is what reading gives, unless memory ran out.
 abbrev pub Fails : {Y : Type 0} → Fault → Result Y ℕ → Type 0
 Fails fault.Memory read = Unit {0}
@@ -19,6 +24,16 @@ Fails (fault.Before left) read = read ≡ Err left
 abbrev pub Gives : {X Y : Type 0} → (X → Y) → Result X Fault → Result Y ℕ → Type 0
 Gives view (Ok x) read = read ≡ Ok (view x)
 Gives view (Err e) read = Fails e read
+
+-- the bytes behind what is read
+abbrev pub behind : {X : Type 0} → Result (X × List ℕ) ℕ → Result (List ℕ) ℕ
+behind (Ok x) = Ok x.1
+behind (Err left) = Err left
+
+-- What passes over the bytes of something and keeps none of it returned the bytes behind, seen by view.
+abbrev pub Passes : {X Y : Type 0} → (X → List ℕ) → Result X ℕ → Result (Y × List ℕ) ℕ → Type 0
+Passes view (Ok rest) read = behind read ≡ Ok (view rest)
+Passes view (Err left) read = read ≡ Err left
 
 abbrev pub is_zero : ℕ → Bool
 is_zero byte = byte == 0

@@ -5,7 +5,7 @@ use Rattle.pg_messages.specs.declared.front.Front.{Front}
 use Rattle.pg_messages.specs.declared.front.Front.TheVariants as front
 use Rattle.pg_messages.specs.declared.front.FrontKind.{FrontKind}
 use Rattle.pg_messages.specs.declared.front.FrontKind.TheVariants as kinds
-use Rattle.pg_messages.specs.declared.front.TheConstants.{FRONT_LIMIT}
+use Rattle.pg_messages.specs.Limits.{front_limit}
 use Rattle.pg_messages.specs.declared.packet.Head.{Head}
 use Rattle.pg_messages.specs.declared.packet.Head.TheVariants as head
 use Rattle.pg_messages.specs.Fields.{◌>>=◌, string_at}
@@ -17,7 +17,7 @@ front_kind byte = if byte == 81 then Some kinds.Query else if byte == 88 then So
 
 unfoldable pub front_head : List ℕ → Head FrontKind
 front_head [] = head.More
-front_head (byte ∷ rest) = message_head FRONT_LIMIT (front_kind byte) rest
+front_head (byte ∷ rest) = message_head front_limit (front_kind byte) rest
 
 -- a Query alone takes memory
 abbrev pub takes_memory : FrontKind → Bool

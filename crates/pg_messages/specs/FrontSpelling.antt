@@ -3,7 +3,7 @@ use Rattle.std.specs.Prelude.{◌≡◌, ℕ, ◌+◌, ◌≤◌, Bool, true, Li
 use Rattle.pg_messages.specs.declared.encode_refused.EncodeRefused.{EncodeRefused}
 use Rattle.pg_messages.specs.declared.front.Front.{Front}
 use Rattle.pg_messages.specs.declared.front.Front.TheVariants as front
-use Rattle.pg_messages.specs.declared.front.TheConstants.{FRONT_LIMIT}
+use Rattle.pg_messages.specs.Limits.{front_limit}
 use Rattle.pg_messages.specs.Spelling.{is_string, string, message, refusal_of}
 
 -- `Q` and `X`
@@ -23,10 +23,10 @@ is_spelled_front (front.Query text) = is_string text
 is_spelled_front front.Terminate = true
 
 abbrev pub front_refusal : Front → Option EncodeRefused
-front_refusal m = refusal_of (is_spelled_front m) (length (front_layout m) + 4) FRONT_LIMIT
+front_refusal m = refusal_of (is_spelled_front m) (length (front_layout m) + 4) front_limit
 
 -- the bytes are this message
 pub record IsFront (m : Front) (packet : List ℕ) : Type 0 where
   pub spelled : is_spelled_front m ≡ true
-  pub within : length (front_layout m) + 4 ≤ FRONT_LIMIT
+  pub within : length (front_layout m) + 4 ≤ front_limit
   pub bytes : packet ≡ front_bytes m

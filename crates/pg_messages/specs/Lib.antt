@@ -3,6 +3,7 @@ pub mod BackSpelling
 pub mod Fields
 pub mod FrontReading
 pub mod FrontSpelling
+pub mod Limits
 pub mod Packet
 pub mod Spelling
 pub mod StartupReading

@@ -78,6 +78,13 @@ packet_of body_of skipped head.More bytes = decoded.More
 packet_of body_of skipped (head.Bad place cause) bytes = decoded.Bad place cause
 packet_of body_of skipped (head.Packet kind n) bytes = decoded_as n (body_of kind (drop skipped (take n bytes)))
 
+-- a packet is read
+abbrev pub is_whole : {T : Type 0} → Decoded T → Bool
+is_whole (decoded.Whole packet length) = true
+is_whole decoded.More = false
+is_whole (decoded.Bad place cause) = false
+is_whole decoded.Memory = false
+
 -- a packet may be going on
 abbrev pub is_more : {T : Type 0} → Decoded T → Bool
 is_more (decoded.Whole packet length) = false

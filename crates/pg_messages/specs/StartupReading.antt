@@ -10,12 +10,12 @@ use Rattle.pg_messages.specs.declared.startup.Startup.{Startup}
 use Rattle.pg_messages.specs.declared.startup.Startup.TheVariants as startup
 use Rattle.pg_messages.specs.declared.startup.StartupKind.{StartupKind}
 use Rattle.pg_messages.specs.declared.startup.StartupKind.TheVariants as kinds
-use Rattle.pg_messages.specs.declared.startup.TheConstants.{STARTUP_CODE, STARTUP_LIMIT}
+use Rattle.pg_messages.specs.Limits.{protocol_code, startup_limit}
 use Rattle.pg_messages.specs.Fields.{◌>>=◌, string_at, until_end}
 use Rattle.pg_messages.specs.Packet.{packet_of}
 
 abbrev pub startup_kind : ℕ → StartupKind
-startup_kind code = if code == STARTUP_CODE then kinds.Start else kinds.Other code
+startup_kind code = if code == protocol_code then kinds.Start else kinds.Other code
 
 -- A length of 8 is that of a packet without fields. A StartupMessage has the zero byte that ends its pairs at least.
 abbrev pub has_length : StartupKind → ℕ → Bool
@@ -28,7 +28,7 @@ coded_head kind size bytes =
 
 abbrev pub sized_head : ℕ → List ℕ → List ℕ → Head StartupKind
 sized_head size rest bytes =
-    if nat_lt size 8 || nat_lt STARTUP_LIMIT size then head.Bad 0 why.Length else if nat_lt (length rest) 4 then head.More else coded_head (startup_kind (from_be_bytes w32 (take 4 rest))) size bytes
+    if nat_lt size 8 || nat_lt startup_limit size then head.Bad 0 why.Length else if nat_lt (length rest) 4 then head.More else coded_head (startup_kind (from_be_bytes w32 (take 4 rest))) size bytes
 
 unfoldable pub startup_head : List ℕ → Head StartupKind
 startup_head bytes =
@@ -45,10 +45,13 @@ is_start head.More = false
 is_start (head.Bad place cause) = false
 is_start (head.Packet kind n) = takes_memory kind
 
+abbrev pub pair_of : List ℕ → List ℕ → Pair
+pair_of name value = record { name = name; value = value }
+
 -- the pair with this name, whose string begins the bytes and is followed by these
 abbrev pub named_pair : List ℕ → List ℕ → List ℕ → Result (Option Pair × List ℕ) ℕ
 named_pair bytes name rest =
-    if length name == 0 then (if length rest == 0 then Ok (None, rest) else Err (length bytes)) else string_at rest >>= λ value. Ok (Some (record { name = name; value = value.0 }), value.1)
+    if length name == 0 then (if length rest == 0 then Ok (None, rest) else Err (length bytes)) else string_at rest >>= λ value. Ok (Some (pair_of name value.0), value.1)
 
 -- The next pair, or none at the empty name. Bytes behind that are a fault of the name.
 unfoldable pub next_pair : List ℕ → Result (Option Pair × List ℕ) ℕ

@@ -6,11 +6,11 @@ use Rattle.pg_messages.specs.declared.encode_refused.EncodeRefused.{EncodeRefuse
 use Rattle.pg_messages.specs.declared.startup.Pair.{Pair}
 use Rattle.pg_messages.specs.declared.startup.Startup.{Startup}
 use Rattle.pg_messages.specs.declared.startup.Startup.TheVariants as startup
-use Rattle.pg_messages.specs.declared.startup.TheConstants.{STARTUP_CODE, STARTUP_LIMIT}
+use Rattle.pg_messages.specs.Limits.{protocol_code, startup_limit}
 use Rattle.pg_messages.specs.Spelling.{is_string, string, refusal_of}
 
 abbrev pub startup_code : Startup → ℕ
-startup_code (startup.Start pairs) = STARTUP_CODE
+startup_code (startup.Start pairs) = protocol_code
 startup_code (startup.Other code) = code
 
 abbrev pub pair_bytes : Pair → List ℕ
@@ -33,10 +33,10 @@ is_pair p = not (length p.name == 0) && is_string p.name && is_string p.value
 
 abbrev pub is_spelled_startup : Startup → Bool
 is_spelled_startup (startup.Start pairs) = list_all is_pair pairs
-is_spelled_startup (startup.Other code) = not (code == STARTUP_CODE)
+is_spelled_startup (startup.Other code) = not (code == protocol_code)
 
 abbrev pub startup_refusal : Startup → Option EncodeRefused
-startup_refusal m = refusal_of (is_spelled_startup m) (length (startup_layout m) + 8) STARTUP_LIMIT
+startup_refusal m = refusal_of (is_spelled_startup m) (length (startup_layout m) + 8) startup_limit
 
 -- The rest of the packet, behind its code. That of a packet with another code may be any bytes.
 abbrev pub IsRest : Startup → List ℕ → Type 0
@@ -49,5 +49,5 @@ pub record IsStartup (m : Startup) (packet : List ℕ) : Type 0 where
   pub code : startup_code m < 2 ^ 32
   pub rest : List ℕ
   pub laid_out : IsRest m rest
-  pub within : length rest + 8 ≤ STARTUP_LIMIT
+  pub within : length rest + 8 ≤ startup_limit
   pub bytes : packet ≡ startup_packet (startup_code m) rest

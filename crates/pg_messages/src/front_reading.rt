@@ -1,14 +1,15 @@
-ghost use Rattle.std.specs.Prelude.{◌≡◌, ℕ, ◌≤◌, true, List, ◌++◌, length, take, not, is_some, IfSome};
+ghost use Rattle.std.specs.Prelude.{◌≡◌, ℕ, ◌≤◌, true, List, ◌++◌, length, take, not, is_some, is_ok, IfSome};
 ghost use Rattle.pg_messages.specs.declared.front.Front.{Front};
 ghost use Rattle.pg_messages.specs.Fields.{Gives};
-ghost use Rattle.pg_messages.specs.Packet.{Answers, IfWhole, IfMemory, IsWithin, TakesMemory, is_more, length_of};
+ghost use Rattle.pg_messages.specs.Packet.{Answers, IfWhole, IfMemory, IsWithin, TakesMemory, is_more, is_whole, length_of};
 ghost use Rattle.pg_messages.specs.FrontReading.{front_kind, front_head, front_fields, front_body, front_of, is_query, takes_memory};
 ghost use Rattle.pg_messages.specs.FrontSpelling.{IsFront};
 
 use crate::decoded::Decoded;
-use crate::fields::{Fault, read_text};
+use crate::fields::{Fault, end, read_string};
 use crate::front::{FRONT_LIMIT, Front, FrontKind};
 use crate::packet::{Head, MESSAGE_HEAD, decoded, read_message_head};
+use feature_expr::Text;
 use std::alloc::Global;
 
 /// The message of a client at the front of the bytes. What lies behind it isn't looked at.
@@ -20,18 +21,20 @@ pub fn decode_front(alloc: Global, bytes: &[u8]) -> Decoded<Front>
     ensures read { (m : Front) (packet rest : List ℕ) → IsFront m packet → bytes.now ≡ packet ++ rest → Answers result (Decoded.Whole m (length packet)) }
     // Where no message is read: its faults in their order, and their places.
     ensures exact { Answers result (front_of bytes.now) }
-    // Memory is taken for a Query that is all there.
+    // Memory is taken for a Query that is all there and has no fault.
     ensures memory { IfMemory result (is_some (length_of (front_head bytes.now)) ≡ true) }
     ensures kind { IfMemory result (is_query (front_head bytes.now) ≡ true) }
+    ensures sound { IfMemory result (is_whole (front_of bytes.now) ≡ true) }
 {
     front_at(alloc, bytes)
 }
 
-#[tactic(auto, unfolding(crate::specs::FrontReading::front_of), using(crate::proofs::Packets::answers_decoded, crate::proofs::Packets::memory_decoded))]
+#[tactic(auto, unfolding(crate::specs::FrontReading::front_of), using(crate::proofs::Packets::answers_decoded, crate::proofs::Packets::memory_decoded, crate::proofs::Packets::sound_decoded))]
 fn front_at(alloc: Global, bytes: &[u8]) -> Decoded<Front>
     ensures exact { Answers result (front_of bytes.now) }
     ensures memory { IfMemory result (is_some (length_of (front_head bytes.now)) ≡ true) }
     ensures kind { IfMemory result (is_query (front_head bytes.now) ≡ true) }
+    ensures sound { IfMemory result (is_whole (front_of bytes.now) ≡ true) }
 {
     match read_front_head(bytes) {
         Head::More => Decoded::More,
@@ -85,28 +88,22 @@ fn kind_of(byte: u8) -> Option<FrontKind>
     }
 }
 
-#[tactic(auto, unfolding(crate::specs::FrontReading::front_body))]
+#[tactic(auto, unfolding(crate::specs::FrontReading::front_body, crate::specs::FrontReading::front_fields))]
 fn read_front(alloc: Global, kind: FrontKind, body: &[u8]) -> Result<Front, Fault>
     ensures exact { Gives (λ front. front) result (front_body kind body.now) }
     ensures memory { TakesMemory result (takes_memory kind) }
-{
-    let (front, rest) = read_front_fields(alloc, kind, body)?;
-    if !rest.is_empty() {
-        return Err(Fault::Before(rest.len()));
-    }
-    Ok(front)
-}
-
-#[tactic(auto, unfolding(crate::specs::FrontReading::front_fields), using(crate::proofs::Packets::takes_any))]
-fn read_front_fields(alloc: Global, kind: FrontKind, body: &[u8]) -> Result<(Front, &[u8]), Fault>
-    ensures exact { Gives (λ x. (x.0, x.1.now)) result (front_fields kind body.now) }
-    ensures memory { TakesMemory result (takes_memory kind) }
+    ensures sound { TakesMemory result (is_ok (front_body kind body.now)) }
 {
     match kind {
         FrontKind::Query => {
-            let (text, rest) = read_text(alloc, body)?;
-            Ok((Front::Query(text), rest))
+            let (string, rest) = read_string(body)?;
+            end(rest)?;
+            let text = Text::from_slice(alloc, string)?;
+            Ok(Front::Query(text))
         }
-        FrontKind::Terminate => Ok((Front::Terminate, body)),
+        FrontKind::Terminate => {
+            end(body)?;
+            Ok(Front::Terminate)
+        }
     }
 }

@@ -1,21 +1,21 @@
 ghost use Rattle.std.specs.Prelude.{◌≡◌, ℕ, ◌+◌, ◌^◌, ◌<◌, ◌≤◌, true, false, List, ◌++◌, length, take};
 ghost use Rattle.pg_messages.specs.declared.back.Back.{Back};
+ghost use Rattle.pg_messages.specs.declared.back.TheConstants.{BACK_LIMIT, COUNT_LIMIT, MINUS_ONE};
 ghost use Rattle.pg_messages.specs.declared.decoded.Decoded.TheVariants as decoded;
 ghost use Rattle.pg_messages.specs.declared.decoded.Why.{Why};
 ghost use Rattle.pg_messages.specs.declared.front.Front.{Front};
+ghost use Rattle.pg_messages.specs.declared.front.TheConstants.{FRONT_LIMIT};
 ghost use Rattle.pg_messages.specs.declared.startup.Startup.{Startup};
+ghost use Rattle.pg_messages.specs.declared.startup.TheConstants.{STARTUP_CODE, STARTUP_LIMIT};
 ghost use Rattle.pg_messages.specs.BackReading.{back_of};
 ghost use Rattle.pg_messages.specs.BackSpelling.{back_bytes, back_refusal, HasNumbers, IsBack};
 ghost use Rattle.pg_messages.specs.FrontReading.{front_of};
 ghost use Rattle.pg_messages.specs.FrontSpelling.{front_bytes, front_refusal, IsFront};
+ghost use Rattle.pg_messages.specs.Limits.{front_limit, back_limit, startup_limit, protocol_code, count_limit, minus_one};
 ghost use Rattle.pg_messages.specs.Packet.{is_more};
 ghost use Rattle.pg_messages.specs.Spelling.{IsBytes};
 ghost use Rattle.pg_messages.specs.StartupReading.{startup_of};
 ghost use Rattle.pg_messages.specs.StartupSpelling.{startup_bytes, startup_code, startup_refusal, IsStartup};
-
-use crate::back::BACK_LIMIT;
-use crate::front::FRONT_LIMIT;
-use crate::startup::STARTUP_LIMIT;
 
 /// Laws of the start-up packets, of all values and all bytes. The call itself does nothing.
 pub fn startup_laws()
@@ -32,7 +32,7 @@ pub fn startup_laws()
     // Bad bytes begin no packet, and no packet begins them.
     ensures bad { (bytes more : List ℕ) (m : Startup) (packet rest : List ℕ) (place : ℕ) (cause : Why) → startup_of bytes ≡ decoded.Bad place cause → IsStartup m packet → bytes ++ more ≡ packet ++ rest → ⊥ }
     // What is waited for is shorter than the longest packet.
-    ensures waits { (bytes : List ℕ) → is_more (startup_of bytes) ≡ true → length bytes < STARTUP_LIMIT }
+    ensures waits { (bytes : List ℕ) → is_more (startup_of bytes) ≡ true → length bytes < startup_limit }
     // What lies behind a packet, be it whole or bad, changes nothing.
     ensures behind { (bytes more : List ℕ) → is_more (startup_of bytes) ≡ false → startup_of (bytes ++ more) ≡ startup_of bytes }
 {}
@@ -52,7 +52,7 @@ pub fn front_laws()
     // Bad bytes begin no packet, and no packet begins them.
     ensures bad { (bytes more : List ℕ) (m : Front) (packet rest : List ℕ) (place : ℕ) (cause : Why) → front_of bytes ≡ decoded.Bad place cause → IsFront m packet → bytes ++ more ≡ packet ++ rest → ⊥ }
     // What is waited for is shorter than the longest packet.
-    ensures waits { (bytes : List ℕ) → is_more (front_of bytes) ≡ true → length bytes ≤ FRONT_LIMIT }
+    ensures waits { (bytes : List ℕ) → is_more (front_of bytes) ≡ true → length bytes ≤ front_limit }
     // What lies behind a packet, be it whole or bad, changes nothing.
     ensures behind { (bytes more : List ℕ) → is_more (front_of bytes) ≡ false → front_of (bytes ++ more) ≡ front_of bytes }
 {}
@@ -72,7 +72,17 @@ pub fn back_laws()
     // Bad bytes begin no packet, and no packet begins them.
     ensures bad { (bytes more : List ℕ) (m : Back) (packet rest : List ℕ) (place : ℕ) (cause : Why) → back_of bytes ≡ decoded.Bad place cause → IsBack m packet → bytes ++ more ≡ packet ++ rest → ⊥ }
     // What is waited for is shorter than the longest packet.
-    ensures waits { (bytes : List ℕ) → is_more (back_of bytes) ≡ true → length bytes ≤ BACK_LIMIT }
+    ensures waits { (bytes : List ℕ) → is_more (back_of bytes) ≡ true → length bytes ≤ back_limit }
     // What lies behind a packet, be it whole or bad, changes nothing.
     ensures behind { (bytes more : List ℕ) → is_more (back_of bytes) ≡ false → back_of (bytes ++ more) ≡ back_of bytes }
+{}
+
+/// The numbers of the protocol, which the code's constants are. The call itself does nothing.
+pub fn limit_laws()
+    ensures front { FRONT_LIMIT ≡ front_limit }
+    ensures back { BACK_LIMIT ≡ back_limit }
+    ensures startup { STARTUP_LIMIT ≡ startup_limit }
+    ensures code { STARTUP_CODE ≡ protocol_code }
+    ensures count { COUNT_LIMIT ≡ count_limit }
+    ensures null { MINUS_ONE ≡ minus_one }
 {}

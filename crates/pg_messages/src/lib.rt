@@ -27,10 +27,7 @@ pub use encode_refused::EncodeRefused;
 pub use front::{FRONT_LIMIT, Front};
 pub use front_reading::{decided_front, decode_front, front_length};
 pub use front_writing::encode_front;
-pub use laws::{back_laws, front_laws, startup_laws};
+pub use laws::{back_laws, front_laws, limit_laws, startup_laws};
 pub use startup::{Pair, STARTUP_LIMIT, Startup};
 pub use startup_reading::{decided_startup, decode_startup, startup_length};
 pub use startup_writing::encode_startup;
-
-#[cfg(test)]
-mod tests;

@@ -1,8 +1,9 @@
-ghost use Rattle.std.specs.Prelude.{◌≡◌, ℕ, ◌≤◌, true, List, ◌++◌, length, take, not, is_some, IfSome};
+ghost use Rattle.std.specs.Prelude.{◌≡◌, ℕ, ◌≤◌, true, List, ◌++◌, length, take, not, is_some, is_ok, IfSome};
+ghost use Rattle.std.specs.Option.{option_map};
 ghost use Rattle.pg_messages.specs.declared.startup.Startup.{Startup};
-ghost use Rattle.pg_messages.specs.Fields.{Gives, until_end};
-ghost use Rattle.pg_messages.specs.Packet.{Answers, IfWhole, IfMemory, IsWithin, TakesMemory, is_more, length_of};
-ghost use Rattle.pg_messages.specs.StartupReading.{startup_kind, has_length, coded_head, startup_head, next_pair, startup_fields, startup_of, is_start, takes_memory};
+ghost use Rattle.pg_messages.specs.Fields.{Gives, Passes, Reads, until_end};
+ghost use Rattle.pg_messages.specs.Packet.{Answers, IfWhole, IfMemory, IsWithin, TakesMemory, is_more, is_whole, length_of};
+ghost use Rattle.pg_messages.specs.StartupReading.{startup_kind, has_length, coded_head, startup_head, pair_of, next_pair, startup_fields, startup_of, is_start, takes_memory};
 ghost use Rattle.pg_messages.specs.StartupSpelling.{IsStartup};
 
 use crate::decoded::{Decoded, Why};
@@ -24,18 +25,20 @@ pub fn decode_startup(alloc: Global, bytes: &[u8]) -> Decoded<Startup>
     ensures read { (m : Startup) (packet rest : List ℕ) → IsStartup m packet → bytes.now ≡ packet ++ rest → Answers result (Decoded.Whole m (length packet)) }
     // Where no packet is read: its faults in their order, and their places.
     ensures exact { Answers result (startup_of bytes.now) }
-    // Memory is taken for a StartupMessage that is all there.
+    // Memory is taken for a StartupMessage that is all there and has no fault.
     ensures memory { IfMemory result (is_some (length_of (startup_head bytes.now)) ≡ true) }
     ensures kind { IfMemory result (is_start (startup_head bytes.now) ≡ true) }
+    ensures sound { IfMemory result (is_whole (startup_of bytes.now) ≡ true) }
 {
     startup_at(alloc, bytes)
 }
 
-#[tactic(auto, unfolding(crate::specs::StartupReading::startup_of), using(crate::proofs::Packets::answers_decoded, crate::proofs::Packets::memory_decoded))]
+#[tactic(auto, unfolding(crate::specs::StartupReading::startup_of), using(crate::proofs::Packets::answers_decoded, crate::proofs::Packets::memory_decoded, crate::proofs::Packets::sound_decoded))]
 fn startup_at(alloc: Global, bytes: &[u8]) -> Decoded<Startup>
     ensures exact { Answers result (startup_of bytes.now) }
     ensures memory { IfMemory result (is_some (length_of (startup_head bytes.now)) ≡ true) }
     ensures kind { IfMemory result (is_start (startup_head bytes.now) ≡ true) }
+    ensures sound { IfMemory result (is_whole (startup_of bytes.now) ≡ true) }
 {
     match read_startup_head(bytes) {
         Head::More => Decoded::More,
@@ -123,29 +126,48 @@ fn may_have_length(kind: StartupKind, size: u32) -> bool
     }
 }
 
-#[tactic(auto, unfolding(crate::specs::StartupReading::startup_fields), using(crate::proofs::Packets::takes_any))]
+#[tactic(auto, unfolding(crate::specs::StartupReading::startup_fields), using(crate::proofs::Packets::takes_any, crate::proofs::Passes::passed_pairs))]
 fn read_startup(alloc: Global, kind: StartupKind, body: &[u8]) -> Result<Startup, Fault>
     ensures exact { Gives (λ startup. startup) result (startup_fields kind body.now) }
     ensures memory { TakesMemory result (takes_memory kind) }
+    ensures sound { TakesMemory result (is_ok (startup_fields kind body.now)) }
 {
     match kind {
         StartupKind::Start => {
-            let (pairs, _) = read_pairs(alloc, body)?;
+            pass_pairs(body)?;
+            let (pairs, _) = copy_pairs(alloc, body)?;
             Ok(Startup::Start(pairs))
         }
         StartupKind::Other(code) => Ok(Startup::Other(code)),
     }
 }
 
+/// Passes over the parameters up to the empty name that ends them.
+#[tactic(auto, using(crate::proofs::Loops::passed_fault, crate::proofs::Loops::passed_none, crate::proofs::Loops::passed_some, crate::proofs::Loops::passed_out))]
+fn pass_pairs(body: &[u8]) -> Result<&[u8], usize>
+    ensures { Passes (λ rest. rest.now) result (until_end next_pair (length body.now) body.now) }
+{
+    let mut rest = body;
+    for _ in 0..body.len() {
+        let (pair, after) = read_pair(rest)?;
+        match pair {
+            None => return Ok(after),
+            Some(_) => {}
+        }
+        rest = after;
+    }
+    Err(rest.len())
+}
+
 /// The parameters up to the empty name that ends them.
 #[tactic(auto, using(crate::proofs::Loops::until_fault, crate::proofs::Loops::until_none, crate::proofs::Loops::until_some, crate::proofs::Loops::until_out))]
-fn read_pairs(alloc: Global, body: &[u8]) -> Result<(List<Pair>, &[u8]), Fault>
+fn copy_pairs(alloc: Global, body: &[u8]) -> Result<(List<Pair>, &[u8]), Fault>
     ensures { Gives (λ x. (x.0, x.1.now)) result (until_end next_pair (length body.now) body.now) }
 {
     let mut pairs = List::new(alloc);
     let mut rest = body;
     for _ in 0..body.len() {
-        let (pair, after) = read_pair(alloc, rest)?;
+        let (pair, after) = copy_pair(alloc, rest)?;
         match pair {
             None => return Ok((pairs, after)),
             Some(pair) => {
@@ -159,21 +181,33 @@ fn read_pairs(alloc: Global, body: &[u8]) -> Result<(List<Pair>, &[u8]), Fault>
     Err(Fault::Before(rest.len()))
 }
 
-/// The next parameter, or None at the empty name, which nothing may follow.
-#[tactic(auto, unfolding(crate::specs::StartupReading::next_pair))]
-fn read_pair(alloc: Global, bytes: &[u8]) -> Result<(Option<Pair>, &[u8]), Fault>
+fn copy_pair(alloc: Global, bytes: &[u8]) -> Result<(Option<Pair>, &[u8]), Fault>
     ensures { Gives (λ x. (x.0, x.1.now)) result (next_pair bytes.now) }
+{
+    let (pair, rest) = read_pair(bytes)?;
+    match pair {
+        None => Ok((None, rest)),
+        Some((name, value)) => {
+            let name = Text::from_slice(alloc, name)?;
+            let value = Text::from_slice(alloc, value)?;
+            Ok((Some(Pair { name, value }), rest))
+        }
+    }
+}
+
+/// The name and the value of the next parameter, or None at the empty name, which nothing may follow.
+#[tactic(auto, unfolding(crate::specs::StartupReading::next_pair))]
+fn read_pair(bytes: &[u8]) -> Result<(Option<(&[u8], &[u8])>, &[u8]), usize>
+    ensures { Reads (λ x. (option_map (λ pair. pair_of pair.0.now pair.1.now) x.0, x.1.now)) result (next_pair bytes.now) }
 {
     let (name, rest) = read_string(bytes)?;
     if name.is_empty() {
         return if rest.is_empty() {
             Ok((None, rest))
         } else {
-            Err(Fault::Before(bytes.len()))
+            Err(bytes.len())
         };
     }
     let (value, rest) = read_string(rest)?;
-    let name = Text::from_slice(alloc, name)?;
-    let value = Text::from_slice(alloc, value)?;
-    Ok((Some(Pair { name, value }), rest))
+    Ok((Some((name, value)), rest))
 }

@@ -5,10 +5,10 @@ use Rattle.pg_messages.proofs.Packets.{whole_from, answers_same}
 use Rattle.pg_messages.proofs.back_reading.decode_back.Goals as goal
 
 pub returns-clause-whole : goal.returns-clause-whole
-returns-clause-whole c = whole_from _ _ _ c.back_at.ensures (λ m n is. back_takes c.args.bytes.now m n (λ i. omega (arith, c.type_inv.bytes i)) is)
+returns-clause-whole c = whole_from _ _ _ c.back_at.ensures.exact (λ m n is. back_takes c.args.bytes.now m n (λ i. omega (arith, c.type_inv.bytes i)) is)
 
 pub returns-clause-within : goal.returns-clause-within
-returns-clause-within c = whole_from _ _ _ c.back_at.ensures (λ m n is. let found = back_takes c.args.bytes.now m n (λ i. omega (arith, c.type_inv.bytes i)) is in (back_least m n c.args.bytes.now found.1, found.0))
+returns-clause-within c = whole_from _ _ _ c.back_at.ensures.exact (λ m n is. let found = back_takes c.args.bytes.now m n (λ i. omega (arith, c.type_inv.bytes i)) is in (back_least m n c.args.bytes.now found.1, found.0))
 
 pub returns-clause-read : goal.returns-clause-read
-returns-clause-read c = λ m packet rest is same. answers_same _ _ _ c.back_at.ensures (ap back_of same ∙ back_again m packet rest is)
+returns-clause-read c = λ m packet rest is same. answers_same _ _ _ c.back_at.ensures.exact (ap back_of same ∙ back_again m packet rest is)

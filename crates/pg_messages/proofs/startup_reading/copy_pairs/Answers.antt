@@ -1,5 +1,5 @@
 use Rattle.pg_messages.proofs.Loops.{until_none}
-use Rattle.pg_messages.proofs.startup_reading.read_pairs.Goals as goal
+use Rattle.pg_messages.proofs.startup_reading.copy_pairs.Goals as goal
 
 pub returns-in-None : goal.returns-in-None
 returns-in-None c =

@@ -2,7 +2,7 @@ use Rattle.std.proofs.Common.{◌≡◌, ◌-◌, length}
 use Rattle.pg_messages.specs.BackReading.{next_error_field}
 use Rattle.pg_messages.specs.Fields.{until_end}
 use Rattle.pg_messages.proofs.Loops.{joined}
-use Rattle.pg_messages.proofs.back_reading.read_error_fields.Given as goal
+use Rattle.pg_messages.proofs.back_reading.copy_error_fields.Given as goal
 
 -- the fields so far, before those that are left, are all of them
 abbrev pub invariant-loop : goal.invariant-loop

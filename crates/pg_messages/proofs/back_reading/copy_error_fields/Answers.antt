@@ -1,5 +1,5 @@
 use Rattle.pg_messages.proofs.Loops.{until_none}
-use Rattle.pg_messages.proofs.back_reading.read_error_fields.Goals as goal
+use Rattle.pg_messages.proofs.back_reading.copy_error_fields.Goals as goal
 
 pub returns-in-None : goal.returns-in-None
 returns-in-None c =

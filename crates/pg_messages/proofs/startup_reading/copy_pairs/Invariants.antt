@@ -2,7 +2,7 @@ use Rattle.std.proofs.Common.{◌≡◌, ◌-◌, length}
 use Rattle.pg_messages.specs.Fields.{until_end}
 use Rattle.pg_messages.specs.StartupReading.{next_pair}
 use Rattle.pg_messages.proofs.Loops.{joined}
-use Rattle.pg_messages.proofs.startup_reading.read_pairs.Given as goal
+use Rattle.pg_messages.proofs.startup_reading.copy_pairs.Given as goal
 
 -- the pairs so far, before those that are left, are all of them
 abbrev pub invariant-loop : goal.invariant-loop
