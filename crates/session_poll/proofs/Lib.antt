@@ -2,6 +2,7 @@ mod AndLaws
 mod BeginLaws
 mod CourseLaws
 mod FixedLaws
+mod KnownLaws
 mod MoveLaws
 mod OutputLaws
 mod PollLaws

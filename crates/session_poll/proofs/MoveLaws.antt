@@ -1,15 +1,18 @@
 -- A step of the session machine, by what its rule left.
-use Rattle.std.proofs.Common.{◌≡◌, ◌∙◌, ℕ, ◌≤◌, true, not, List, [], ◌++◌, length, take, drop, Option, Some, None, refl, sym, ap, subst, take-append-drop, take_all, length-take-le, le_of_eq}
-use Rattle.pg_messages.specs.FrontReading.{front_head, front_of, is_query}
+use Rattle.std.proofs.Common.{◌≡◌, ◌∙◌, ℕ, ◌≤◌, true, false, not, List, [], ◌++◌, length, take, drop, Option, Some, None, refl, sym, ap, subst, take-append-drop, take_all, length-take-le, le_of_eq}
+use Rattle.pg_messages.specs.FrontReading.{front_head, front_body, front_of, is_query}
 use Rattle.pg_messages.specs.FrontSpelling.{IsFront}
-use Rattle.pg_messages.specs.Packet.{length_of, is_more}
-use Rattle.pg_messages.specs.StartupReading.{startup_head, startup_of, is_start}
+use Rattle.pg_messages.specs.Packet.{length_of, is_more, is_more_head}
+use Rattle.pg_messages.specs.StartupReading.{startup_head, startup_fields, startup_of, is_start}
 use Rattle.pg_messages.specs.StartupSpelling.{IsStartup}
 use Rattle.pg_messages.specs.declared.back.Back.{Back}
 use Rattle.pg_messages.specs.declared.decoded.Decoded.TheVariants as decoded
 use Rattle.pg_messages.specs.declared.decoded.Why.{Why}
 use Rattle.pg_messages.specs.declared.front.Front.{Front}
 use Rattle.pg_messages.specs.declared.startup.Startup.{Startup}
+use Rattle.pg_messages.specs.declared.packet.Head.{Head}
+use Rattle.pg_messages.specs.declared.packet.Head.TheVariants as head
+use Rattle.pg_messages.proofs.Packets.{is_more_packet}
 use Rattle.session_poll.specs.declared.opening.Opening.{Opening}
 use Rattle.session_poll.specs.declared.session.Session.{Session}
 use Rattle.session_poll.specs.declared.state.Phase.{Phase}
@@ -21,14 +24,15 @@ use Rattle.session_poll.specs.Queries.{RunsStatement, RunsOut, EndsQuery}
 use Rattle.session_poll.specs.Replies.{spelled}
 use Rattle.session_poll.specs.Runs.{HasSnapshot}
 use Rattle.session_poll.specs.Session.{state_of, held_of}
+use Rattle.session_poll.specs.Standing.{works}
 use Rattle.session_poll.specs.StartUps.{Rejects, StartsUp}
 use Rattle.session_poll.specs.State.{State, in_phase}
 use Rattle.session_poll.specs.Steps.{Handles, Refuses, Step}
 use Rattle.vra_syntax.specs.declared.statement.Statement.{Statement}
 
 -- the packet was dropped from what was held, and then its rule was followed
-moved_by : (opening : Opening) (old mid new : Session) (phase : Phase) (input : Input) (rule : State → Course → Type 0) (count : ℕ) → old.phase ≡ phase → ((s : State) (c : Course) → rule s c → Step opening phase input s c) → Drops count old mid → Takes rule mid new → IsReadAs phase input (take count (held_of old)) → Moved opening old new
-moved_by opening old mid new phase input rule count is follows d t read_as = record {
+moved_by : (opening : Opening) (old mid new : Session) (phase : Phase) (input : Input) (rule : State → Course → Type 0) (count : ℕ) → old.phase ≡ phase → ((s : State) (c : Course) → rule s c → Step opening phase input s c) → Drops count old mid → Takes rule mid new → IsReadAs phase input (take count (held_of old)) → works phase (held_of old) ≡ true → Moved opening old new
+moved_by opening old mid new phase input rule count is follows d t read_as worked = record {
   did = record { input = input; bytes = take count (held_of old); course = t.course };
   step = subst (λ p. Step opening p input (state_of old) t.course) (sym is) (follows (state_of old) t.course (subst (λ s. rule s t.course) d.state t.rule_is));
   read_as = subst (λ p. IsReadAs p input (take count (held_of old))) (sym is) read_as;
@@ -37,24 +41,41 @@ moved_by opening old mid new phase input rule count is follows d t read_as = rec
   put = t.put ∙ ap (λ o. o.bytes ++ spelled t.course.replies) d.output;
   over = t.keeps.over ∙ d.over;
   fits = λ has. t.fits (subst (HasSnapshot 0) (sym (ap (λ (s : State). s.transaction) d.state)) has);
+  worked = subst (λ p. works p (held_of old) ≡ true) (sym is) worked;
 }
 
-pub started : (opening : Opening) (old mid new : Session) (packet : Startup) (count : ℕ) → old.phase ≡ phases.Start → Drops count old mid → Takes (StartsUp opening packet) mid new → (count ≤ length (held_of old)) × IsStartup packet (take count (held_of old)) → Moved opening old new
-started opening old mid new packet count is d t whole = moved_by opening old mid new phases.Start (StartUp packet) (StartsUp opening packet) count is (λ s c r. r) d t whole.1
+pub started : (opening : Opening) (old mid new : Session) (packet : Startup) (count : ℕ) → old.phase ≡ phases.Start → Drops count old mid → Takes (StartsUp opening packet) mid new → (count ≤ length (held_of old)) × IsStartup packet (take count (held_of old)) → startup_of (held_of old) ≡ decoded.Whole packet count → Moved opening old new
+started opening old mid new packet count is d t whole read =
+    moved_by opening old mid new phases.Start (StartUp packet) (StartsUp opening packet) count is (λ s c r. r) d t whole.1 (ap (λ x. not (is_more x)) read)
 
-pub handled : (opening : Opening) (old mid new : Session) (message : Front) (count : ℕ) → old.phase ≡ phases.Ready → Drops count old mid → Takes (Handles opening message) mid new → (count ≤ length (held_of old)) × IsFront message (take count (held_of old)) → Moved opening old new
-handled opening old mid new message count is d t whole = moved_by opening old mid new phases.Ready (Message message) (Handles opening message) count is (λ s c r. r) d t whole.1
+pub handled : (opening : Opening) (old mid new : Session) (message : Front) (count : ℕ) → old.phase ≡ phases.Ready → Drops count old mid → Takes (Handles opening message) mid new → (count ≤ length (held_of old)) × IsFront message (take count (held_of old)) → front_of (held_of old) ≡ decoded.Whole message count → Moved opening old new
+handled opening old mid new message count is d t whole read =
+    moved_by opening old mid new phases.Ready (Message message) (Handles opening message) count is (λ s c r. r) d t whole.1 (ap (λ x. not (is_more x)) read)
 
 all_held : (held : List ℕ) → take (length held) held ≡ held
 all_held held = take_all (length held) held (le_of_eq refl)
 
 pub start_bad : (opening : Opening) (old mid new : Session) (place : ℕ) (cause : Why) → old.phase ≡ phases.Start → startup_of (held_of old) ≡ decoded.Bad place cause → Drops (length (held_of old)) old mid → Takes Rejects mid new → Moved opening old new
 start_bad opening old mid new place cause is bad d t =
-    moved_by opening old mid new phases.Start Bad Rejects (length (held_of old)) is (λ s c r. r) d t (rw (all_held (held_of old)) (ap is_bad bad))
+    moved_by opening old mid new phases.Start Bad Rejects (length (held_of old)) is (λ s c r. r) d t (rw (all_held (held_of old)) (ap is_bad bad)) (ap (λ x. not (is_more x)) bad)
 
 pub message_bad : (opening : Opening) (old mid new : Session) (place : ℕ) (cause : Why) → old.phase ≡ phases.Ready → front_of (held_of old) ≡ decoded.Bad place cause → Drops (length (held_of old)) old mid → Takes Rejects mid new → Moved opening old new
 message_bad opening old mid new place cause is bad d t =
-    moved_by opening old mid new phases.Ready Bad Rejects (length (held_of old)) is (λ s c r. r) d t (rw (all_held (held_of old)) (ap is_bad bad))
+    moved_by opening old mid new phases.Ready Bad Rejects (length (held_of old)) is (λ s c r. r) d t (rw (all_held (held_of old)) (ap is_bad bad)) (ap (λ x. not (is_more x)) bad)
+
+-- work waits where a packet is cut off by its head
+head_worked : {K : Type 0} (x : Head K) (count : ℕ) → length_of x ≡ Some count → is_more_head x ≡ false
+head_worked head.More count is = absurd cc
+head_worked (head.Bad place cause) count is = refl
+head_worked (head.Packet kind n) count is = refl
+
+startup_worked : (count : ℕ) (held : List ℕ) → length_of (startup_head held) ≡ Some count → not (is_more (startup_of held)) ≡ true
+unfolding startup_of
+startup_worked count held is = ap not (is_more_packet startup_fields 8 (startup_head held) held ∙ head_worked (startup_head held) count is)
+
+front_worked : (count : ℕ) (held : List ℕ) → length_of (front_head held) ≡ Some count → not (is_more (front_of held)) ≡ true
+unfolding front_of
+front_worked count held is = ap not (is_more_packet front_body 5 (front_head held) held ∙ head_worked (front_head held) count is)
 
 -- the packet that is cut off is one by its head
 cut_length : (count : ℕ) (held : List ℕ) → count ≤ length held → count ≡ length (take count held)
@@ -77,7 +98,7 @@ front_cut count held within kind is = record {
 start_skipped : (opening : Opening) (old mid new : Session) (found : Option ℕ) → length_of (startup_head (held_of old)) ≡ found → is_start (startup_head (held_of old)) ≡ true → old.phase ≡ phases.Start → Skips found old mid → Takes Refuses mid new → Moved opening old new
 start_skipped opening old mid new None there kind is s t = absurd s
 start_skipped opening old mid new (Some count) there kind is s t =
-    moved_by opening old mid new phases.Start Unread Refuses count is (λ s c r. r) s.1 t (startup_cut count (held_of old) s.0 kind there)
+    moved_by opening old mid new phases.Start Unread Refuses count is (λ s c r. r) s.1 t (startup_cut count (held_of old) s.0 kind there) (startup_worked count (held_of old) there)
 
 pub start_unread : (opening : Opening) (old mid new : Session) → old.phase ≡ phases.Start → is_start (startup_head (held_of old)) ≡ true → Skips (length_of (startup_head (held_of old))) old mid → Takes Refuses mid new → Moved opening old new
 start_unread opening old mid new is kind s t = start_skipped opening old mid new (length_of (startup_head (held_of old))) refl kind is s t
@@ -85,7 +106,7 @@ start_unread opening old mid new is kind s t = start_skipped opening old mid new
 message_skipped : (opening : Opening) (old mid new : Session) (found : Option ℕ) → length_of (front_head (held_of old)) ≡ found → is_query (front_head (held_of old)) ≡ true → old.phase ≡ phases.Ready → Skips found old mid → Takes RunsOut mid new → Moved opening old new
 message_skipped opening old mid new None there kind is s t = absurd s
 message_skipped opening old mid new (Some count) there kind is s t =
-    moved_by opening old mid new phases.Ready Unread RunsOut count is (λ s c r. r) s.1 t (front_cut count (held_of old) s.0 kind there)
+    moved_by opening old mid new phases.Ready Unread RunsOut count is (λ s c r. r) s.1 t (front_cut count (held_of old) s.0 kind there) (front_worked count (held_of old) there)
 
 pub message_unread : (opening : Opening) (old mid new : Session) → old.phase ≡ phases.Ready → is_query (front_head (held_of old)) ≡ true → Skips (length_of (front_head (held_of old))) old mid → Takes RunsOut mid new → Moved opening old new
 message_unread opening old mid new is kind s t = message_skipped opening old mid new (length_of (front_head (held_of old))) refl kind is s t
@@ -101,6 +122,7 @@ gone_on opening old new first left is t = record {
   put = t.put;
   over = t.keeps.over;
   fits = t.fits;
+  worked = rw is refl;
 }
 
 pub query_ended : (opening : Opening) (old new : Session) (complete : Back) → old.phase ≡ phases.Query complete → Takes (EndsQuery complete) old new → Moved opening old new
@@ -113,6 +135,7 @@ query_ended opening old new complete is t = record {
   put = t.put;
   over = t.keeps.over;
   fits = t.fits;
+  worked = rw is refl;
 }
 
 same_itself : (old : Session) → Same old old

@@ -1,7 +1,7 @@
 -- The query rule, part by part.
-use Rattle.std.proofs.Common.{◌≡◌, ◌∙◌, ℕ, List, [], ◌∷◌, ◌++◌, inl, inr, ◌⊎◌, Option, Some, None, Ok, Err, refl, sym, ap, subst, append-nil}
+use Rattle.std.proofs.Common.{◌≡◌, ◌∙◌, ℕ, false, List, [], ◌∷◌, ◌++◌, inl, inr, ◌⊎◌, Option, Some, None, Ok, Err, refl, sym, ap, subst, append-nil}
 use Rattle.pg_messages.specs.declared.back.Back.{Back}
-use Rattle.session_poll.specs.declared.fixed.TheConstants.{EMPTY_AND_READY, NOT_BUILT, OUT_OF_MEMORY_AND_READY, READY}
+use Rattle.session_poll.specs.declared.fixed.TheConstants.{EMPTY_AND_READY, NOT_BUILT, NOT_UTF8_AND_READY, OUT_OF_MEMORY_AND_READY, READY}
 use Rattle.session_poll.specs.declared.opening.Opening.{Opening}
 use Rattle.session_poll.specs.declared.refusal.Refusal.{Refusal}
 use Rattle.session_poll.specs.declared.refusal.Refusal.TheVariants as refusal
@@ -10,7 +10,7 @@ use Rattle.session_poll.specs.declared.state.Phase.TheVariants as phases
 use Rattle.session_poll.specs.Begins.{Begins}
 use Rattle.session_poll.specs.Courses.{Course, Follows, Then, goes, both}
 use Rattle.session_poll.specs.Parts.{KeepsState, IsReady, IsEnded, IsTaken, Done, Takes, Told, ToldEnd, Failed}
-use Rattle.session_poll.specs.Queries.{IsRead, Queries, RunsAs, RunsStatement, RunsAll, SaysEmpty, Runs, RunsOut, Closes, EndsQuery}
+use Rattle.session_poll.specs.Queries.{IsRead, is_fixed, Queries, RunsAs, RunsStatement, RunsAll, SaysEmpty, Runs, RunsOut, Closes, EndsQuery}
 use Rattle.session_poll.specs.Replies.{spelled, error_of, empty_query, ready_for_query}
 use Rattle.session_poll.specs.Runs.{HasSnapshot}
 use Rattle.session_poll.specs.Session.{state_of, waiting_of}
@@ -19,7 +19,7 @@ use Rattle.session_poll.specs.State.{State, in_phase, ready, ended}
 use Rattle.session_poll.specs.Tables.{bare_table, AnswersTable}
 use Rattle.vra_syntax.specs.declared.statement.Statement.{Statement}
 use Rattle.session_poll.proofs.CourseLaws.{put_behind, put_bytes, fit_append, keeps_on, log_closed}
-use Rattle.session_poll.proofs.FixedLaws.{empty_and_ready_is, not_built_is, out_of_memory_and_ready_is, ready_is}
+use Rattle.session_poll.proofs.FixedLaws.{empty_and_ready_is, not_built_is, not_utf8_and_ready_is, out_of_memory_and_ready_is, ready_is}
 
 pub then_goes : (first second : State → Course → Type 0) (old mid new : Session) (refused : Option Refusal) → Done first old None mid → Done second mid refused new → Done (Then first second) old refused new
 then_goes first second old mid new refused d e = record {
@@ -146,10 +146,24 @@ told_error why old mid new m n keeps = record {
 out_put : (old mid new : List ℕ) → mid ≡ old → new ≡ mid ++ OUT_OF_MEMORY_AND_READY.now → new ≡ old ++ spelled (error_of refusal.OutOfMemory ∷ ready_for_query ∷ [])
 out_put old mid new m n = n ∙ ap (λ (b : List ℕ). b ++ OUT_OF_MEMORY_AND_READY.now) m ∙ ap (λ (b : List ℕ). old ++ b) out_of_memory_and_ready_is
 
-pub told_memory : (why : Refusal) (old mid new : Session) → waiting_of mid ≡ waiting_of old → waiting_of new ≡ waiting_of mid ++ OUT_OF_MEMORY_AND_READY.now → KeepsState old new → Told why old new
-told_memory why old mid new m n keeps = record {
+told_fixed : (why known : Refusal) (bytes : List ℕ) (old new : Session) → why ≡ known → bytes ≡ spelled (error_of known ∷ ready_for_query ∷ []) → waiting_of new ≡ waiting_of old ++ bytes → KeepsState old new → Told why old new
+told_fixed why known bytes old new is fixed put keeps = record {
+  message = error_of why;
+  told = inl refl;
+  put = put ∙ ap (λ (b : List ℕ). waiting_of old ++ b) (fixed ∙ ap (λ w. spelled (error_of w ∷ ready_for_query ∷ [])) (sym is));
+  keeps = keeps;
+}
+
+pub told_not_utf8 : (why : Refusal) (old new : Session) → why ≡ refusal.NotUtf8 → waiting_of new ≡ waiting_of old ++ NOT_UTF8_AND_READY.now → KeepsState old new → Told why old new
+told_not_utf8 why old new is put keeps = told_fixed why refusal.NotUtf8 NOT_UTF8_AND_READY.now old new is not_utf8_and_ready_is put keeps
+
+pub told_out_of_memory : (why : Refusal) (old new : Session) → why ≡ refusal.OutOfMemory → waiting_of new ≡ waiting_of old ++ OUT_OF_MEMORY_AND_READY.now → KeepsState old new → Told why old new
+told_out_of_memory why old new is put keeps = told_fixed why refusal.OutOfMemory OUT_OF_MEMORY_AND_READY.now old new is out_of_memory_and_ready_is put keeps
+
+pub told_memory : (why : Refusal) (old mid new : Session) → is_fixed why ≡ false → waiting_of mid ≡ waiting_of old → waiting_of new ≡ waiting_of mid ++ OUT_OF_MEMORY_AND_READY.now → KeepsState old new → Told why old new
+told_memory why old mid new takes m n keeps = record {
   message = error_of refusal.OutOfMemory;
-  told = inr refl;
+  told = inr (takes, refl);
   put = out_put (waiting_of old) (waiting_of mid) (waiting_of new) m n;
   keeps = keeps;
 }

@@ -24,10 +24,11 @@ use Rattle.session_poll.specs.Answers.{IsAnswer, heading, table_heading, is_some
 use Rattle.session_poll.specs.Scans.{is_of, scanned, scanned_column, scanned_row, scanned_rows}
 use Rattle.session_poll.specs.Servable.{IsServable}
 use Rattle.session_poll.proofs.AndLaws.{and_holds, and_weighs, weighs_true}
+use Rattle.session_poll.proofs.KnownLaws.{answer_known}
 use Rattle.vschema.specs.declared.catalog.Column.{Column}
 use Rattle.vschema.specs.declared.catalog.OpeningRow.{OpeningRow}
 use Rattle.vschema.specs.declared.catalog.Table.{Table}
-use Rattle.vschema.specs.Formed.{distinct, column_names, has_distinct_columns, CellsFit, FitsTable, RowFits}
+use Rattle.vschema.specs.Formed.{distinct, column_names, has_distinct_columns, table_features_below, CellsFit, FitsTable, RowFits}
 use Rattle.vschema.specs.Gaps.{misses_value, columns_without, has_all_values, has_all_values_in, have_all_values}
 use Rattle.vschema.specs.Variants.{has_column, opening_at, opening_database, table_in}
 use Rattle.vschema.specs.Variants as variants
@@ -266,6 +267,7 @@ headings model table (column ∷ columns) = one_heading model table column colum
 pub normal_is_answer : (opening : Opening) (number : ℕ) (table : Table) (before after : VTable) → IsServable opening → slice_get opening.catalog.tables number ≡ Some table → before ≡ scanned number table opening.rows → IsNormalOf opening.model before after → IsAnswer opening number table after
 normal_is_answer opening number table before after servable there is normal =
     let scan = scanned number table opening.rows in
+    let count_of = length opening.catalog.features in
     let made : IsNormalOf opening.catalog.model scan after = subst₂ (λ m b. IsNormalOf m b after) servable.model is normal in
     let fewer = made.fewer in
     let lighter = made.lighter in
@@ -281,6 +283,8 @@ normal_is_answer opening number table before after servable there is normal =
       rows = omega (arith, fewer, count);
       row_conditions = omega (arith, lighter, weight, count);
       column_conditions = omega (arith, staying, within);
+      known = answer_known count_of number opening.catalog.model table opening.rows after
+          (at_place (table_features_below count_of) opening.catalog.tables number table servable.formed.tables_known there) servable.formed.rows_known made.columns made.known;
     }
 
 -- a row more

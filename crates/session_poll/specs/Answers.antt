@@ -1,7 +1,8 @@
 -- The answer to a bare table.
-use Rattle.std.specs.Prelude.{◌≡◌, ℕ, ◌+◌, ◌≤◌, Bool, List, [], ◌∷◌, map, filter, length, if◌then◌else◌}
+use Rattle.std.specs.Prelude.{◌≡◌, ℕ, ◌+◌, ◌<◌, ◌≤◌, Bool, ◌||◌, IsTrue, List, [], ◌∷◌, map, filter, length, if◌then◌else◌}
+use Rattle.std.specs.List.{list_any}
 use Rattle.condition_sat.specs.Admitted.{IsAdmitted}
-use Rattle.feature_expr.specs.Expressions.{and_of, weight_of}
+use Rattle.feature_expr.specs.Expressions.{and_of, mentions, weight_of}
 use Rattle.feature_expr.specs.declared.expr.Expr.{Expr}
 use Rattle.plain_relation.specs.Relations.{SameRelation}
 use Rattle.plain_relation.specs.Relations as plain
@@ -13,7 +14,7 @@ use Rattle.session_poll.specs.Scans.{is_of}
 use Rattle.vschema.specs.Variants.{bare_name, opening_database}
 use Rattle.vtable.specs.Answers.{answer_at, IsAnswerAt}
 use Rattle.condition_sat.specs.Possible.{can_hold}
-use Rattle.vtable.specs.TableForm.{rows_weight, IsTableForm}
+use Rattle.vtable.specs.TableForm.{rows_mention, rows_weight, IsTableForm}
 use Rattle.vtable.specs.declared.table.VColumn.{VColumn}
 use Rattle.vtable.specs.declared.table.VTable.{VTable}
 
@@ -45,9 +46,16 @@ table_heading column = record { name = bare_name column.name; kind = column.kind
 abbrev pub is_somewhere : Expr → Table → Column → Bool
 is_somewhere model table column = can_hold model (and_of table.cond column.cond)
 
+-- whether a feature occurs in the condition of a column or of a row
+abbrev pub columns_mention : ℕ → List VColumn → Bool
+columns_mention feature columns = list_any (λ (column : VColumn). mentions feature column.cond) columns
+
+abbrev pub answer_mentions : ℕ → VTable → Bool
+answer_mentions feature answer = columns_mention feature answer.columns || rows_mention feature answer.rows
+
 -- The answer is in table form, and its columns are those of the table that some admitted variant has, in the table's
 -- order. In each admitted variant it is well formed, and is the variant's plain table. Its rows and its conditions are
--- within the table's bounds.
+-- within the table's bounds. Each feature that occurs in it is one of the catalogue's.
 pub record IsAnswer (opening : Opening) (number : ℕ) (table : Table) (answer : VTable) : Type 0 where
   pub form : IsTableForm opening.catalog.model answer
   pub columns : map heading answer.columns ≡ map table_heading (filter (is_somewhere opening.catalog.model table) table.columns)
@@ -56,3 +64,4 @@ pub record IsAnswer (opening : Opening) (number : ℕ) (table : Table) (answer :
   pub rows : length answer.rows ≤ row_count number opening.rows
   pub row_conditions : rows_weight answer.rows ≤ row_weight number opening.rows + row_count number opening.rows
   pub column_conditions : columns_weigh answer.columns ≤ column_weight (weight_of table.cond) table.columns
+  pub known : (feature : ℕ) → IsTrue (answer_mentions feature answer) → feature < length opening.catalog.features

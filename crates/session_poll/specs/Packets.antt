@@ -30,7 +30,7 @@ pub record IsFrontCut (packet : List ℕ) : Type 0 where
   pub cut : length_of (front_head (packet ++ behind)) ≡ Some (length packet)
 
 -- The bytes that an input takes: those that spell it, in the grammar of its phase. A packet that is taken unread is
--- one by its head alone. Of a bad packet all that was fed so far is taken. The next step of a Query takes none.
+-- one by its head alone. Those of a bad packet begin with it. The next step of a Query takes none.
 abbrev pub IsReadAs : Phase → Input → List ℕ → Type 0
 IsReadAs phases.Start (StartUp packet) bytes = IsStartup packet bytes
 IsReadAs phases.Start Unread bytes = IsStartupCut bytes

@@ -14,7 +14,7 @@ use Rattle.session_poll.specs.Queries.{Tells}
 use Rattle.session_poll.specs.Replies.{spelled, error_of, ready_for_query}
 use Rattle.session_poll.specs.Runs.{AllFit, Did, HasSnapshot}
 use Rattle.session_poll.specs.Session.{state_of, held_of, waiting_of, is_over}
-use Rattle.session_poll.specs.Standing.{works}
+use Rattle.session_poll.specs.Standing.{works, IsFull}
 use Rattle.session_poll.specs.State.{State, in_phase, ready, ended}
 use Rattle.session_poll.specs.Steps.{Step}
 use Rattle.vschema.specs.declared.catalog.Table.{Table}
@@ -109,7 +109,13 @@ pub record ToldEnd (complete : Back) (old new : Session) : Type 0 where
   pub put : (waiting_of new ≡ waiting_of old ++ spelled (complete ∷ ready_for_query ∷ [])) ⊎ (waiting_of new ≡ waiting_of old ++ spelled (error_of refusal.OutOfMemory ∷ ready_for_query ∷ []))
   pub keeps : KeepsState old new
 
--- a step of the session machine was taken
+-- no room was there for a reply of fixed bytes, no memory was found for it, and nothing was done
+pub record WantsMemory (old new : Session) : Type 0 where
+  pub same : Same old new
+  pub before : old.output.is_ready ≡ false
+  pub full : IsFull new
+
+-- a step of the session machine was taken, since work waited
 pub record Moved (opening : Opening) (old new : Session) : Type 0 where
   pub did : Did
   pub step : Step opening old.phase did.input (state_of old) did.course
@@ -119,6 +125,7 @@ pub record Moved (opening : Opening) (old new : Session) : Type 0 where
   pub put : waiting_of new ≡ waiting_of old ++ spelled did.course.replies
   pub over : is_over new ≡ is_over old
   pub fits : KeepsLog 0 old did.course new
+  pub worked : works old.phase (held_of old) ≡ true
 
 pub record Idles (old new : Session) : Type 0 where
   pub same : Same old new

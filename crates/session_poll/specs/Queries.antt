@@ -1,5 +1,5 @@
 -- The query rule.
-use Rattle.std.specs.Prelude.{◌≡◌, ℕ, false, List, [], ◌∷◌, ◌++◌, Option, Some, None, Result, Ok, Err, ◌⊎◌}
+use Rattle.std.specs.Prelude.{◌≡◌, ℕ, Bool, true, false, List, [], ◌∷◌, ◌++◌, Option, Some, None, Result, Ok, Err, ◌⊎◌}
 use Rattle.std.specs.Str.{IsUtf8}
 use Rattle.pg_messages.specs.declared.back.Back.{Back}
 use Rattle.query_parser.specs.Texts.{IsText, IsRefusedText}
@@ -22,9 +22,15 @@ IsRead features text (Err refusal.NotUtf8) = IsUtf8 text → ⊥
 IsRead features text (Err (refusal.Unparsed why)) = IsUtf8 text × IsRefusedText features false text why
 IsRead features text (Err why) = ⊥
 
--- the error of a refusal, or that of want of memory
+-- whether the error of a refusal is a reply of fixed bytes, which takes no memory
+abbrev pub is_fixed : Refusal → Bool
+is_fixed refusal.NotUtf8 = true
+is_fixed refusal.OutOfMemory = true
+is_fixed _ = false
+
+-- the error of a refusal; where it takes memory, that of want of memory may be told in its place
 abbrev pub Tells : Refusal → Back → Type 0
-Tells why message = (message ≡ error_of why) ⊎ (message ≡ error_of refusal.OutOfMemory)
+Tells why message = (message ≡ error_of why) ⊎ ((is_fixed why ≡ false) × (message ≡ error_of refusal.OutOfMemory))
 
 -- The error rule in a Query: the error is told, the transaction is dropped, and the Query ends. The statements that are
 -- left aren't run.

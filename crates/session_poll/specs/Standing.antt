@@ -35,8 +35,12 @@ standing_of session =
     let work = works (state_of session).phase (held_of session) in
     stands work (is_ended (state_of session).phase || is_over session && not work) (is_empty (waiting_of session))
 
--- A poll says how the session stands, or, where it did nothing, that there is no memory for more behind what waits.
+-- behind what waits there is no room for a reply of fixed bytes
+abbrev pub IsFull : Session → Type 0
+IsFull session = (session.output.is_ready ≡ false) × (is_empty (waiting_of session) ≡ false)
+
+-- A poll says how the session stands, or, where it did nothing, that output has to be taken: it found no memory for a
+-- reply of fixed bytes behind what waits.
 abbrev pub Says : Bool → Polled → Session → Type 0
 Says true result session = result ≡ standing_of session
-Says false result session =
-    (result ≡ standing_of session) ⊎ ((result ≡ polled.NeedOutput) × (session.output.is_ready ≡ false) × (is_empty (waiting_of session) ≡ false))
+Says false result session = (result ≡ standing_of session) ⊎ ((result ≡ polled.NeedOutput) × IsFull session)

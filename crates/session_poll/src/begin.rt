@@ -19,7 +19,7 @@ const EMPTY_LOG: u64 = 0;
 impl Session {
     /// Where no transaction is open, one begins, and its snapshot is told.
     #[tactic(auto, using(crate::proofs::BeginLaws::goes_on))]
-    pub fn begin(&mut self) -> Option<Refusal>
+    pub(crate) fn begin(&mut self) -> Option<Refusal>
         requires { self.old.output.is_ready ≡ true }
         ensures { Done Begins self.old result self.new }
     {

@@ -8,6 +8,10 @@ pub const OUT_OF_MEMORY: &[u8] =
 pub const OUT_OF_MEMORY_AND_READY: &[u8] =
     b"E\x00\x00\x00\x29SERROR\x00VERROR\x00C53200\x00Mout of memory\x00\x00Z\x00\x00\x00\x05I";
 
+/// An ErrorResponse with the code 22021 and the text `text is not UTF-8`, and the same behind it.
+pub const NOT_UTF8_AND_READY: &[u8] =
+    b"E\x00\x00\x00\x2dSERROR\x00VERROR\x00C22021\x00Mtext is not UTF-8\x00\x00Z\x00\x00\x00\x05I";
+
 /// An ErrorResponse with the code 0A000 and the text `not built yet`. The session ends with it.
 pub const NOT_BUILT: &[u8] =
     b"E\x00\x00\x00\x29SFATAL\x00VFATAL\x00C0A000\x00Mnot built yet\x00\x00";

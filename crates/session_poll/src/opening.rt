@@ -17,7 +17,7 @@ pub struct Opening {
 impl Opening {
     /// The table with this name, and its number.
     #[tactic(auto, using(crate::proofs::TableLaws::found_there))]
-    pub fn find(&self, name: &Name) -> Option<(u32, &Table)>
+    pub(crate) fn find(&self, name: &Name) -> Option<(u32, &Table)>
         requires { length self.now.catalog.tables < 2 ^ 32 }
         ensures some { IfSome result (λ found. (number_of self.now name.now ≡ Some found.0) × (slice_get self.now.catalog.tables found.0 ≡ Some found.1.now)) }
         ensures none { IfNone result (number_of self.now name.now ≡ None) }

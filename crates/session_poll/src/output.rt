@@ -18,22 +18,20 @@ pub const FIXED_SIZE: usize = 64;
 pub struct Output {
     bytes: Vec<u8>,
     start: usize,
-    is_ready: bool,
     message: Vec<u8>,
 }
 
 impl Model for Output {
-    ghost use Rattle.std.specs.Prelude.{ℕ, ◌≡◌, ◌≤◌, ◌<◌, ◌+◌, true, false, List, drop, vec_len, vec_capacity};
+    ghost use Rattle.std.specs.Prelude.{ℕ, ◌≡◌, ◌≤◌, ◌<◌, ◌+◌, ◌-◌, List, drop, nat_le, vec_len, vec_capacity};
     ghost use Rattle.session_poll.specs.Output.{Waiting};
     ghost use Rattle.session_poll.specs.declared.output.TheConstants.{FIXED_SIZE};
 
     ghost Value = { Waiting };
 
-    ghost view = { λ it. record { bytes = drop it.start it.bytes.items; is_ready = it.is_ready } };
+    ghost view = { λ it. record { bytes = drop it.start it.bytes.items; is_ready = nat_le FIXED_SIZE (vec_capacity it.bytes - vec_len it.bytes) } };
 
     ghost invariant = { λ it. (it.start ≤ vec_len it.bytes) × (FIXED_SIZE ≤ vec_capacity it.bytes)
-        × (it.is_ready ≡ true → vec_len it.bytes + FIXED_SIZE ≤ vec_capacity it.bytes)
-        × (it.is_ready ≡ false → it.start < vec_len it.bytes) };
+        × (vec_capacity it.bytes < vec_len it.bytes + FIXED_SIZE → it.start < vec_len it.bytes) };
 }
 
 impl Output {
@@ -45,7 +43,6 @@ impl Output {
         Ok(Output {
             bytes,
             start: 0,
-            is_ready: true,
             message: Vec::new(alloc),
         })
     }
@@ -72,27 +69,19 @@ impl Output {
         if self.start == self.bytes.len() {
             self.bytes.clear();
             self.start = 0;
-            self.is_ready = true;
         }
     }
 
-    /// Whether a reply of fixed bytes can be put without memory. It can where nothing waits.
+    /// Makes room for a reply of fixed bytes. It takes memory only where there is none, and where nothing waits there is.
     #[tactic(auto, using(crate::proofs::OutputLaws::drop_not_empty))]
-    pub fn is_ready(&self) -> bool
-        ensures exact { result ≡ self.now.is_ready }
-        ensures waits { result ≡ false → is_empty self.now.bytes ≡ false }
-    {
-        self.is_ready
-    }
-
-    /// Takes memory for a reply of fixed bytes, where there is some.
-    pub fn make_room(&mut self)
+    pub fn make_room(&mut self) -> Result<(), Memory>
         ensures bytes { self.new.bytes ≡ self.old.bytes }
-        ensures ready { self.old.is_ready ≡ true → self.new.is_ready ≡ true }
+        ensures ok { OnOk result (self.new.is_ready ≡ true) }
+        ensures err { OnErr result (self.new ≡ self.old) }
+        ensures wants { OnErr result ((self.old.is_ready ≡ false) × (is_empty self.old.bytes ≡ false)) }
     {
-        if !self.is_ready && self.bytes.reserve(FIXED_SIZE).is_ok() {
-            self.is_ready = true;
-        }
+        self.bytes.reserve(FIXED_SIZE)?;
+        Ok(())
     }
 
     /// Puts a reply of fixed bytes. It takes no memory, and what comes next may find no room.
@@ -103,7 +92,6 @@ impl Output {
         ensures { self.new.bytes ≡ self.old.bytes ++ bytes.now }
     {
         let _fits = self.bytes.extend_from_slice(bytes);
-        self.is_ready = false;
     }
 
     /// Puts a message behind the bytes that wait. One that is too long to be told counts as want of memory.

@@ -1,13 +1,13 @@
 //! A poll: none or one step of the session machine.
 
-ghost use Rattle.std.specs.Prelude.{◌≡◌, ◌≤◌, ◌++◌, true, false, not, length, take, drop, is_some, min, IfSome};
+ghost use Rattle.std.specs.Prelude.{◌≡◌, ◌≤◌, ◌++◌, true, false, not, length, take, drop, is_some, min, IfOk, IfSome, OnErr};
 ghost use Rattle.pg_messages.specs.FrontReading.{front_head, front_of, is_query};
 ghost use Rattle.pg_messages.specs.FrontSpelling.{IsFront};
 ghost use Rattle.pg_messages.specs.Packet.{Answers, IfWhole, IfMemory, length_of};
 ghost use Rattle.pg_messages.specs.StartupReading.{startup_head, startup_of, is_start};
 ghost use Rattle.pg_messages.specs.StartupSpelling.{IsStartup};
 ghost use Rattle.session_poll.specs.declared.state.Phase.TheVariants as phases;
-ghost use Rattle.session_poll.specs.Parts.{Drops, Skips, Moves, Takes};
+ghost use Rattle.session_poll.specs.Parts.{Drops, Skips, Moves, Takes, WantsMemory};
 ghost use Rattle.session_poll.specs.Polls.{Polls};
 ghost use Rattle.session_poll.specs.Servable.{IsServable};
 ghost use Rattle.session_poll.specs.Session.{held_of};
@@ -17,6 +17,7 @@ use crate::opening::Opening;
 use crate::polled::Polled;
 use crate::session::Session;
 use crate::state::Phase;
+use feature_expr::Memory;
 use pg_messages::{
     Decoded, Front, Startup, decode_front, decode_startup, front_length, startup_length,
 };
@@ -28,12 +29,22 @@ impl Session {
         requires { IsServable opening.now }
         ensures { Polls opening.now self.old result self.new }
     {
-        self.output.make_room();
-        if !self.output.is_ready() {
-            return Polled::NeedOutput;
+        match self.move_on(opening) {
+            Ok(_has_moved) => self.standing(),
+            Err(Memory) => Polled::NeedOutput,
         }
-        let _has_moved = self.step(opening);
-        self.standing()
+    }
+
+    /// Makes room for a reply of fixed bytes, and takes a step if there is one to take.
+    #[tactic(auto, using(crate::proofs::PollLaws::moves_from, crate::proofs::PollLaws::wants_memory))]
+    fn move_on(&mut self, opening: &Opening) -> Result<bool, Memory>
+        requires { IsServable opening.now }
+        ensures ok { IfOk result (λ has_moved. Moves opening.now self.old has_moved self.new) }
+        ensures err { OnErr result (WantsMemory self.old self.new) }
+    {
+        self.output.make_room()?;
+        let has_moved = self.step(opening);
+        Ok(has_moved)
     }
 
     /// Takes a step if there is one to take.

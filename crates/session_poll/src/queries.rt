@@ -1,11 +1,11 @@
 //! The query rule.
 
-ghost use Rattle.std.specs.Prelude.{◌≡◌, ◌++◌, [], ◌∷◌, true, None, List as Items, OnOk, OnErr};
+ghost use Rattle.std.specs.Prelude.{◌≡◌, ◌++◌, [], ◌∷◌, true, false, None, List as Items, OnOk, OnErr};
 ghost use Rattle.pg_messages.specs.declared.back.Back.{Back};
 ghost use Rattle.session_poll.specs.Begins.{Begins};
 ghost use Rattle.session_poll.specs.Courses.{Then};
 ghost use Rattle.session_poll.specs.Parts.{Done, Takes, Told, ToldEnd, Failed, KeepsState, IsReady, IsEnded, IsTaken};
-ghost use Rattle.session_poll.specs.Queries.{Queries, RunsAll, RunsStatement, Runs, RunsOut, SaysEmpty, EndsQuery};
+ghost use Rattle.session_poll.specs.Queries.{is_fixed, Queries, RunsAll, RunsStatement, Runs, RunsOut, SaysEmpty, EndsQuery};
 ghost use Rattle.session_poll.specs.Replies.{spelled, error_of};
 ghost use Rattle.session_poll.specs.Servable.{IsServable};
 ghost use Rattle.session_poll.specs.StartUps.{Rejects};
@@ -13,7 +13,9 @@ ghost use Rattle.session_poll.specs.State.{in_phase};
 ghost use Rattle.session_poll.specs.declared.state.Phase.TheVariants as phases;
 ghost use Rattle.session_poll.specs.Tables.{AnswersTable};
 
-use crate::fixed::{EMPTY_AND_READY, NOT_BUILT, OUT_OF_MEMORY_AND_READY, READY};
+use crate::fixed::{
+    EMPTY_AND_READY, NOT_BUILT, NOT_UTF8_AND_READY, OUT_OF_MEMORY_AND_READY, READY,
+};
 use crate::left::Left;
 use crate::opening::Opening;
 use crate::query::{bare_table, read};
@@ -28,7 +30,7 @@ use vra_syntax::Statement;
 impl Session {
     /// Reads the text of a Query, and runs its first statement.
     #[tactic(auto, using(crate::proofs::QueryLaws::query_read, crate::proofs::QueryLaws::query_refused))]
-    pub fn query(&mut self, text: &Text, opening: &Opening)
+    pub(crate) fn query(&mut self, text: &Text, opening: &Opening)
         requires ready { self.old.output.is_ready ≡ true }
         requires servable { IsServable opening.now }
         ensures { Takes (Queries opening.now text.now) self.old self.new }
@@ -55,7 +57,7 @@ impl Session {
 
     /// Goes on with the next statement of a Query.
     #[tactic(auto, using(crate::proofs::QueryLaws::goes_on))]
-    pub fn go_on(&mut self, opening: &Opening)
+    pub(crate) fn go_on(&mut self, opening: &Opening)
         requires ready { self.old.output.is_ready ≡ true }
         requires servable { IsServable opening.now }
         ensures { (first : Statement) (left : Items Statement) → self.old.phase ≡ phases.Statements first left → Takes (λ old c. RunsStatement opening.now first left (in_phase phases.Ready old) c) self.old self.new }
@@ -129,9 +131,23 @@ impl Session {
         self.be_ready();
     }
 
-    #[tactic(auto, using(crate::proofs::QueryLaws::told_error, crate::proofs::QueryLaws::told_memory))]
+    #[tactic(auto, using(crate::proofs::QueryLaws::told_not_utf8, crate::proofs::QueryLaws::told_out_of_memory))]
     fn tell_error(&mut self, why: &Refusal)
         requires { self.old.output.is_ready ≡ true }
+        ensures { Told why.now self.old self.new }
+    {
+        match why {
+            Refusal::NotUtf8 => self.output.put_fixed(NOT_UTF8_AND_READY),
+            Refusal::OutOfMemory => self.output.put_fixed(OUT_OF_MEMORY_AND_READY),
+            _ => self.tell_in_memory(why),
+        }
+    }
+
+    /// Tells an error, which takes memory, or want of memory in its place.
+    #[tactic(auto, using(crate::proofs::QueryLaws::told_error, crate::proofs::QueryLaws::told_memory))]
+    fn tell_in_memory(&mut self, why: &Refusal)
+        requires ready { self.old.output.is_ready ≡ true }
+        requires takes { is_fixed why.now ≡ false }
         ensures { Told why.now self.old self.new }
     {
         match self.put_error(why) {
@@ -153,7 +169,7 @@ impl Session {
 
     /// Want of memory stands for the message that took it: the transaction is dropped, and the Query ends.
     #[tactic(auto, using(crate::proofs::QueryLaws::ran_out))]
-    pub fn run_out(&mut self)
+    pub(crate) fn run_out(&mut self)
         requires { self.old.output.is_ready ≡ true }
         ensures { Takes RunsOut self.old self.new }
     {
@@ -163,7 +179,7 @@ impl Session {
 
     /// Refuses what isn't built yet, and ends.
     #[tactic(auto, using(crate::proofs::QueryLaws::rejected))]
-    pub fn reject(&mut self)
+    pub(crate) fn reject(&mut self)
         requires { self.old.output.is_ready ≡ true }
         ensures { Takes Rejects self.old self.new }
     {
@@ -173,7 +189,7 @@ impl Session {
 
     /// The end of a Query whose last statement was answered: its transaction ends, and its tag is sent.
     #[tactic(auto, using(crate::proofs::QueryLaws::ends_query))]
-    pub fn end_query(&mut self)
+    pub(crate) fn end_query(&mut self)
         requires { self.old.output.is_ready ≡ true }
         ensures { (complete : Back) → self.old.phase ≡ phases.Query complete → Takes (EndsQuery complete) self.old self.new }
     {
@@ -212,7 +228,7 @@ impl Session {
         self.transaction = Transaction::Idle;
     }
 
-    pub fn end(&mut self)
+    pub(crate) fn end(&mut self)
         ensures { IsEnded self.old self.new }
     {
         self.phase = Phase::Ended;

@@ -11,7 +11,7 @@ use pg_messages::{decided_front, decided_startup};
 
 impl Session {
     /// How the session stands. It takes no memory.
-    pub fn standing(&self) -> Polled
+    pub(crate) fn standing(&self) -> Polled
         ensures { result ≡ standing_of self.now }
     {
         if self.has_work() {

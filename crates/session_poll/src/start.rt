@@ -18,7 +18,7 @@ use pg_messages::Startup;
 impl Session {
     /// Answers a start-up packet.
     #[tactic(auto, using(crate::proofs::StartLaws::starts_up, crate::proofs::StartLaws::starts_not))]
-    pub fn start_up(&mut self, packet: &Startup, opening: &Opening)
+    pub(crate) fn start_up(&mut self, packet: &Startup, opening: &Opening)
         requires { self.old.output.is_ready ≡ true }
         ensures { Takes (StartsUp opening.now packet.now) self.old self.new }
     {
@@ -53,7 +53,7 @@ impl Session {
 
     /// Want of memory stands for a start-up packet that wasn't read, and the session still waits for one.
     #[tactic(auto, using(crate::proofs::StartLaws::refused))]
-    pub fn refuse_start(&mut self)
+    pub(crate) fn refuse_start(&mut self)
         requires { self.old.output.is_ready ≡ true }
         ensures { Takes Refuses self.old self.new }
     {

@@ -23,7 +23,12 @@ use vtable::{OutTable, normal};
 impl Session {
     /// Answers the table with this name, or refuses the name. Behind it these statements are left.
     #[tactic(auto, using(crate::proofs::TableLaws::answers_shown, crate::proofs::TableLaws::answers_none))]
-    pub fn answer_table(&mut self, name: Name, left: Left, opening: &Opening) -> Option<Refusal>
+    pub(crate) fn answer_table(
+        &mut self,
+        name: Name,
+        left: Left,
+        opening: &Opening,
+    ) -> Option<Refusal>
         requires ready { self.old.output.is_ready ≡ true }
         requires servable { IsServable opening.now }
         ensures { Done (AnswersTable opening.now name left) self.old result self.new }

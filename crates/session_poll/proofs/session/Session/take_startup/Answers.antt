@@ -3,7 +3,7 @@ use Rattle.session_poll.proofs.session.Session.take_startup.Goals as goal
 
 pub returns-in-Whole : goal.returns-in-Whole
 returns-in-Whole c =
-    started c.args.opening.now c.args.self.now c.discard.new.self c.start_up.new.self c.in-Whole.packet c.in-Whole.count c.requires.phase c.discard.ensures c.start_up.ensures c.in-Whole.ensures.whole
+    started c.args.opening.now c.args.self.now c.discard.new.self c.start_up.new.self c.in-Whole.packet c.in-Whole.count c.requires.phase c.discard.ensures c.start_up.ensures c.in-Whole.ensures.whole c.in-Whole.ensures.exact
 
 pub returns-in-Bad : goal.returns-in-Bad
 returns-in-Bad c =
