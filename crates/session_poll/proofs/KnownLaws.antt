@@ -14,7 +14,7 @@ use Rattle.vschema.specs.declared.catalog.Column.{Column}
 use Rattle.vschema.specs.declared.catalog.OpeningRow.{OpeningRow}
 use Rattle.vschema.specs.declared.catalog.Table.{Table}
 use Rattle.vschema.specs.Formed.{below_step, features_below, column_features_below, table_features_below, row_features_below}
-use Rattle.vtable.specs.Possible.{can_hold, always_holds}
+use Rattle.condition_sat.specs.Possible.{can_hold, always_holds}
 use Rattle.vtable.specs.TableForm.{columns_staying, rows_mention}
 use Rattle.vtable.specs.declared.table.VColumn.{VColumn}
 use Rattle.vtable.specs.declared.table.VTable.{VTable}

@@ -6,4 +6,3 @@ mod Pieces
 mod ReadyLaws
 mod ReplayLaws
 mod ReplayedLaws
-mod VariantText

@@ -1,8 +1,8 @@
-ghost use Rattle.std.specs.Prelude.{◌≡◌, ◌+◌, ◌++◌, ◌<◌, codes, decimal, length, slice_get, unwrap_or, true, OnOk, IfOk};
-ghost use Rattle.feature_expr.specs.Config.{has_feature};
-ghost use Rattle.vdb_server.specs.CheckLines.{passed_line, held_names, separated, separator, variant_text, check_line_of};
+ghost use Rattle.std.specs.Prelude.{◌≡◌, ◌++◌, codes, decimal, OnOk, IfOk};
+ghost use Rattle.feature_expr.specs.Variants.{variant_text};
+ghost use Rattle.vdb_server.specs.CheckLines.{passed_line, check_line_of};
 
-use feature_expr::{Config, Features, List, Memory, Name, Text};
+use feature_expr::{Config, Features, List, Memory, Name, Text, push_variant};
 use itoa::Buffer;
 use std::alloc::Global;
 use vra_types::CheckRefused;
@@ -56,7 +56,7 @@ fn no_column(
     let mut line = Vec::from_slice(alloc, b"catalogue: table ")?;
     line.extend_from_slice(table.as_slice())?;
     line.extend_from_slice(b" has no column in variant ")?;
-    put_variant(&mut line, features, config)?;
+    push_variant(&mut line, features, config)?;
     Ok(Text::from_vec(line))
 }
 
@@ -74,7 +74,7 @@ fn no_value(
     line.extend_from_slice(b": column ")?;
     line.extend_from_slice(column.as_slice())?;
     line.extend_from_slice(b" has no value in variant ")?;
-    put_variant(&mut line, features, config)?;
+    push_variant(&mut line, features, config)?;
     Ok(Text::from_vec(line))
 }
 
@@ -83,38 +83,5 @@ fn put_number(line: &mut Vec<u8>, number: u64) -> Result<(), Memory>
 {
     let mut buffer = Buffer::new();
     line.extend_from_slice(buffer.format(number).as_bytes())?;
-    Ok(())
-}
-
-/// The names of the features that hold, in brackets.
-fn put_variant(line: &mut Vec<u8>, features: &Features, config: &Config) -> Result<(), Memory>
-    ensures { OnOk result (line.new.items ≡ line.old.items ++ variant_text features.now config.now) }
-{
-    line.extend_from_slice(b"{")?;
-    put_names(line, features, config)?;
-    line.extend_from_slice(b"}")?;
-    Ok(())
-}
-
-fn put_names(line: &mut Vec<u8>, features: &Features, config: &Config) -> Result<(), Memory>
-    ensures { OnOk result (line.new.items ≡ line.old.items ++ separated true (held_names config.now 0 features.now)) }
-{
-    let mut is_first = true;
-    for feature in 0..features.count() {
-        if config.holds(feature) {
-            put_name(line, is_first, features.name(feature))?;
-            is_first = false;
-        }
-    }
-    Ok(())
-}
-
-fn put_name(line: &mut Vec<u8>, is_first: bool, name: &Name) -> Result<(), Memory>
-    ensures { OnOk result (line.new.items ≡ line.old.items ++ (separator is_first ++ name.now)) }
-{
-    if !is_first {
-        line.extend_from_slice(b",")?;
-    }
-    line.extend_from_slice(name.as_slice())?;
     Ok(())
 }
