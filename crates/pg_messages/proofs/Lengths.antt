@@ -4,14 +4,14 @@ use Rattle.std.proofs.lemmas.Bool.{cases_Bool, ltb-false}
 use Rattle.std.proofs.lemmas.Bool.Decides.{nat_tests}
 use Rattle.pg_messages.specs.declared.encode_refused.EncodeRefused.{EncodeRefused}
 use Rattle.pg_messages.specs.declared.encode_refused.EncodeRefused.TheVariants as refused
-use Rattle.pg_messages.specs.Spelling.{told, refusal_of}
+use Rattle.pg_messages.specs.Spelling.{capped, refusal_of}
 
-pub refusal_told : (has_spelling : Bool) (length most : ℕ) → most < 2 ^ 64 - 1 → refusal_of has_spelling (told length) most ≡ refusal_of has_spelling length most
+pub refusal_told : (has_spelling : Bool) (length most : ℕ) → most < 2 ^ 64 - 1 → refusal_of has_spelling (capped length) most ≡ refusal_of has_spelling length most
 refusal_told false length most lt = refl
 refusal_told true length most lt = grind (arith, nat_tests)
 
 abbrev refused_at : ℕ → Option EncodeRefused
-refused_at length = Some (refused.TooLong (told length))
+refused_at length = Some (refused.TooLong (capped length))
 
 pub refusal_none : (has_spelling : Bool) (length most : ℕ) → refusal_of has_spelling length most ≡ None → (has_spelling ≡ true) × (length ≤ most)
 refusal_none false length most h = absurd cc

@@ -5,12 +5,12 @@ use Rattle.pg_messages.specs.declared.decoded.Decoded.{Decoded}
 use Rattle.pg_messages.specs.declared.decoded.Decoded.TheVariants as decoded
 use Rattle.pg_messages.specs.declared.fields.Fault.{Fault}
 use Rattle.pg_messages.specs.declared.fields.Fault.TheVariants as fault
-use Rattle.pg_messages.specs.Fields.{Gives}
+use Rattle.pg_messages.specs.Fields.{ReadsAs}
 use Rattle.pg_messages.specs.declared.packet.Head.{Head}
 use Rattle.pg_messages.specs.declared.packet.Head.TheVariants as head
 use Rattle.pg_messages.specs.Packet.{Answers, IfWhole, IfMemory, TakesMemory, decoded_as, decoded_from, packet_of, is_more, is_more_head, is_whole}
 
-pub answers_decoded : {T : Type 0} (n : ℕ) (result : Result T Fault) (read : Result T ℕ) → Gives (λ x. x) result read → Answers (decoded_from n result) (decoded_as n read)
+pub answers_decoded : {T : Type 0} (n : ℕ) (result : Result T Fault) (read : Result T ℕ) → ReadsAs (λ x. x) result read → Answers (decoded_from n result) (decoded_as n read)
 answers_decoded n (Ok x) read h = ap (decoded_as n) h
 answers_decoded n (Err (fault.Before left)) read h = ap (decoded_as n) h
 answers_decoded n (Err fault.Memory) read h = tt

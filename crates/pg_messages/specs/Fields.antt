@@ -21,9 +21,9 @@ abbrev pub Fails : {Y : Type 0} → Fault → Result Y ℕ → Type 0
 Fails fault.Memory read = Unit {0}
 Fails (fault.Before left) read = read ≡ Err left
 
-abbrev pub Gives : {X Y : Type 0} → (X → Y) → Result X Fault → Result Y ℕ → Type 0
-Gives view (Ok x) read = read ≡ Ok (view x)
-Gives view (Err e) read = Fails e read
+abbrev pub ReadsAs : {X Y : Type 0} → (X → Y) → Result X Fault → Result Y ℕ → Type 0
+ReadsAs view (Ok x) read = read ≡ Ok (view x)
+ReadsAs view (Err e) read = Fails e read
 
 -- the bytes behind what is read
 abbrev pub behind : {X : Type 0} → Result (X × List ℕ) ℕ → Result (List ℕ) ℕ

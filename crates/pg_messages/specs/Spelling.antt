@@ -26,19 +26,19 @@ abbrev pub message : ℕ → List ℕ → List ℕ
 message kind body = kind ∷ to_be_bytes w32 (length body + 4) ++ body
 
 -- a number of bytes as it is told, which the greatest u64 stands for where it is above that
-abbrev pub told : ℕ → ℕ
-told n = min n (2 ^ 64 - 1)
+abbrev pub capped : ℕ → ℕ
+capped n = min n (2 ^ 64 - 1)
 
 -- Why a packet isn't written: its value has no spelling, or its length is above the greatest of its kind.
 abbrev pub refusal_of : Bool → ℕ → ℕ → Option EncodeRefused
-refusal_of has_spelling length most = if has_spelling then (if nat_lt most length then Some (refused.TooLong (told length)) else None) else Some refused.NotSpelled
+refusal_of has_spelling length most = if has_spelling then (if nat_lt most length then Some (refused.TooLong (capped length)) else None) else Some refused.NotSpelled
 
 -- An encoder refuses what has this refusal, and nothing else, unless memory runs out.
-abbrev pub Refuses : Result (Unit {0}) EncodeRefused → Option EncodeRefused → Type 0
-Refuses (Ok done) refusal = refusal ≡ None
-Refuses (Err refused.NotSpelled) refusal = refusal ≡ Some refused.NotSpelled
-Refuses (Err (refused.TooLong n)) refusal = refusal ≡ Some (refused.TooLong n)
-Refuses (Err refused.Memory) refusal = refusal ≡ None
+abbrev pub RefusesToWrite : Result (Unit {0}) EncodeRefused → Option EncodeRefused → Type 0
+RefusesToWrite (Ok done) refusal = refusal ≡ None
+RefusesToWrite (Err refused.NotSpelled) refusal = refusal ≡ Some refused.NotSpelled
+RefusesToWrite (Err (refused.TooLong n)) refusal = refusal ≡ Some (refused.TooLong n)
+RefusesToWrite (Err refused.Memory) refusal = refusal ≡ None
 
 -- the length field of a packet that may be written, or the refusal
 abbrev pub Checks : Result ℕ EncodeRefused → ℕ → Option EncodeRefused → Type 0

@@ -1,7 +1,7 @@
 ghost use Rattle.std.specs.Prelude.{◌≡◌, ℕ, ◌≤◌, true, List as Items, ◌++◌, length, take, is_ok};
 ghost use Rattle.std.specs.Option.{option_map};
 ghost use Rattle.pg_messages.specs.declared.back.Back.{Back};
-ghost use Rattle.pg_messages.specs.Fields.{Gives, Passes, Reads, times, until_end};
+ghost use Rattle.pg_messages.specs.Fields.{ReadsAs, Passes, Reads, times, until_end};
 ghost use Rattle.pg_messages.specs.Packet.{Answers, IfMemory, IfWhole, IsWithin, TakesMemory, is_whole};
 ghost use Rattle.pg_messages.specs.BackReading.{back_kind, back_head, back_fields, back_body, back_of, zero_at, status_at, format_at, field_of, field_at, cell_at, error_field_of, next_error_field};
 ghost use Rattle.pg_messages.specs.BackSpelling.{IsBack};
@@ -83,7 +83,7 @@ fn kind_of(byte: u8) -> Option<BackKind>
 
 #[tactic(auto, unfolding(crate::specs::BackReading::back_body), using(crate::proofs::Passes::passed_ended, crate::proofs::Passes::passed_spare))]
 fn read_back(alloc: Global, kind: BackKind, body: &[u8]) -> Result<Back, Fault>
-    ensures exact { Gives (λ back. back) result (back_body kind body.now) }
+    ensures exact { ReadsAs (λ back. back) result (back_body kind body.now) }
     ensures sound { TakesMemory result (is_ok (back_body kind body.now)) }
 {
     let rest = pass_back_fields(kind, body)?;
@@ -132,7 +132,7 @@ fn pass_back_fields(kind: BackKind, body: &[u8]) -> Result<&[u8], usize>
 
 #[tactic(auto, unfolding(crate::specs::BackReading::back_fields))]
 fn copy_back_fields(alloc: Global, kind: BackKind, body: &[u8]) -> Result<(Back, &[u8]), Fault>
-    ensures { Gives (λ x. (x.0, x.1.now)) result (back_fields kind body.now) }
+    ensures { ReadsAs (λ x. (x.0, x.1.now)) result (back_fields kind body.now) }
 {
     match kind {
         BackKind::AuthenticationOk => {
@@ -200,7 +200,7 @@ fn read_status(bytes: &[u8]) -> Result<(Status, &[u8]), usize>
 
 #[tactic(auto, using(crate::proofs::Loops::times_fault, crate::proofs::Loops::times_one, crate::proofs::Loops::times_out))]
 fn copy_fields(alloc: Global, count: u16, bytes: &[u8]) -> Result<(List<Field>, &[u8]), Fault>
-    ensures { Gives (λ x. (x.0, x.1.now)) result (times field_at count bytes.now) }
+    ensures { ReadsAs (λ x. (x.0, x.1.now)) result (times field_at count bytes.now) }
 {
     let mut fields = List::new(alloc);
     let mut rest = bytes;
@@ -215,7 +215,7 @@ fn copy_fields(alloc: Global, count: u16, bytes: &[u8]) -> Result<(List<Field>, 
 }
 
 fn copy_field(alloc: Global, bytes: &[u8]) -> Result<(Field, &[u8]), Fault>
-    ensures { Gives (λ x. (x.0, x.1.now)) result (field_at bytes.now) }
+    ensures { ReadsAs (λ x. (x.0, x.1.now)) result (field_at bytes.now) }
 {
     let (field, rest) = read_field(bytes)?;
     let name = Text::from_slice(alloc, field.name)?;
@@ -266,7 +266,7 @@ fn read_format(bytes: &[u8]) -> Result<(u16, &[u8]), usize>
 
 #[tactic(auto, using(crate::proofs::Loops::times_fault, crate::proofs::Loops::times_one, crate::proofs::Loops::times_out))]
 fn copy_cells(alloc: Global, count: u16, bytes: &[u8]) -> Result<(List<Option<Text>>, &[u8]), Fault>
-    ensures { Gives (λ x. (x.0, x.1.now)) result (times cell_at count bytes.now) }
+    ensures { ReadsAs (λ x. (x.0, x.1.now)) result (times cell_at count bytes.now) }
 {
     let mut cells = List::new(alloc);
     let mut rest = bytes;
@@ -281,7 +281,7 @@ fn copy_cells(alloc: Global, count: u16, bytes: &[u8]) -> Result<(List<Option<Te
 }
 
 fn copy_cell(alloc: Global, bytes: &[u8]) -> Result<(Option<Text>, &[u8]), Fault>
-    ensures { Gives (λ x. (x.0, x.1.now)) result (cell_at bytes.now) }
+    ensures { ReadsAs (λ x. (x.0, x.1.now)) result (cell_at bytes.now) }
 {
     let (cell, rest) = read_cell(bytes)?;
     match cell {
@@ -315,7 +315,7 @@ fn read_cell(bytes: &[u8]) -> Result<(Option<&[u8]>, &[u8]), usize>
 /// The fields of an error, up to the zero byte that ends them.
 #[tactic(auto, using(crate::proofs::Loops::until_fault, crate::proofs::Loops::until_none, crate::proofs::Loops::until_some, crate::proofs::Loops::until_out))]
 fn copy_error_fields(alloc: Global, bytes: &[u8]) -> Result<(List<ErrorField>, &[u8]), Fault>
-    ensures { Gives (λ x. (x.0, x.1.now)) result (until_end next_error_field (length bytes.now) bytes.now) }
+    ensures { ReadsAs (λ x. (x.0, x.1.now)) result (until_end next_error_field (length bytes.now) bytes.now) }
 {
     let mut fields = List::new(alloc);
     let mut rest = bytes;
@@ -335,7 +335,7 @@ fn copy_error_fields(alloc: Global, bytes: &[u8]) -> Result<(List<ErrorField>, &
 }
 
 fn copy_error_field(alloc: Global, bytes: &[u8]) -> Result<(Option<ErrorField>, &[u8]), Fault>
-    ensures { Gives (λ x. (x.0, x.1.now)) result (next_error_field bytes.now) }
+    ensures { ReadsAs (λ x. (x.0, x.1.now)) result (next_error_field bytes.now) }
 {
     let (field, rest) = read_error_field(bytes)?;
     match field {

@@ -1,6 +1,6 @@
 ghost use Rattle.std.specs.Prelude.{◌≡◌, ◌+◌, ◌≤◌, ◌++◌, length, vec_len, vec_capacity, OnOk, OnErr, IsTrue, Option};
 ghost use Rattle.std.specs.List.{flat_map, list_all, AllByRecursion};
-ghost use Rattle.pg_messages.specs.Spelling.{Refuses, told};
+ghost use Rattle.pg_messages.specs.Spelling.{RefusesToWrite, capped};
 ghost use Rattle.pg_messages.specs.BackSpelling.{back_byte, status_byte, field_bytes, cell_bytes, error_field_bytes, back_layout, back_bytes, is_field, is_error_field, is_spelled_back, back_refusal, HasFieldNumbers, HasNumbers, IsBack};
 
 use crate::back::{BACK_LIMIT, Back, COUNT_LIMIT, ErrorField, Field, MINUS_ONE, Status};
@@ -17,7 +17,7 @@ pub fn encode_back(back: &Back, into: &mut Vec<u8>) -> Result<(), EncodeRefused>
     ensures ok { OnOk result (into.new.items ≡ into.old.items ++ back_bytes back.now) }
     ensures spelled { OnOk result (IsBack back.now (back_bytes back.now)) }
     ensures err { OnErr result (into.new.items ≡ into.old.items) }
-    ensures refused { Refuses result (back_refusal back.now) }
+    ensures refused { RefusesToWrite result (back_refusal back.now) }
 {
     let length = checked_length(is_spelled(back), back_len(back), BACK_LIMIT)?;
     room_for(length as usize + 1, into)?;
@@ -86,13 +86,13 @@ fn is_spelled_error_field(field: &ErrorField) -> bool
 
 /// What the length field is to be.
 fn back_len(back: &Back) -> u64
-    ensures { result ≡ told (length (back_layout back.now) + 4) }
+    ensures { result ≡ capped (length (back_layout back.now) + 4) }
 {
     body_len(back).saturating_add(4)
 }
 
 fn body_len(back: &Back) -> u64
-    ensures { result ≡ told (length (back_layout back.now)) }
+    ensures { result ≡ capped (length (back_layout back.now)) }
 {
     match back {
         Back::AuthenticationOk => 4,
@@ -108,7 +108,7 @@ fn body_len(back: &Back) -> u64
 }
 
 fn fields_len(fields: &[Field]) -> u64
-    ensures { result ≡ told (length (flat_map field_bytes fields.now)) }
+    ensures { result ≡ capped (length (flat_map field_bytes fields.now)) }
 {
     let mut total: u64 = 0;
     for field in fields {
@@ -118,13 +118,13 @@ fn fields_len(fields: &[Field]) -> u64
 }
 
 fn field_len(field: &Field) -> u64
-    ensures { result ≡ told (length (field_bytes field.now)) }
+    ensures { result ≡ capped (length (field_bytes field.now)) }
 {
     string_len(&field.name).saturating_add(18)
 }
 
 fn cells_len(cells: &[Option<Text>]) -> u64
-    ensures { result ≡ told (length (flat_map cell_bytes cells.now)) }
+    ensures { result ≡ capped (length (flat_map cell_bytes cells.now)) }
 {
     let mut total: u64 = 0;
     for cell in cells {
@@ -134,7 +134,7 @@ fn cells_len(cells: &[Option<Text>]) -> u64
 }
 
 fn cell_len(cell: &Option<Text>) -> u64
-    ensures { result ≡ told (length (cell_bytes cell.now)) }
+    ensures { result ≡ capped (length (cell_bytes cell.now)) }
 {
     match cell {
         None => 4,
@@ -143,7 +143,7 @@ fn cell_len(cell: &Option<Text>) -> u64
 }
 
 fn error_fields_len(fields: &[ErrorField]) -> u64
-    ensures { result ≡ told (length (flat_map error_field_bytes fields.now)) }
+    ensures { result ≡ capped (length (flat_map error_field_bytes fields.now)) }
 {
     let mut total: u64 = 0;
     for field in fields {
@@ -153,7 +153,7 @@ fn error_fields_len(fields: &[ErrorField]) -> u64
 }
 
 fn error_field_len(field: &ErrorField) -> u64
-    ensures { result ≡ told (length (error_field_bytes field.now)) }
+    ensures { result ≡ capped (length (error_field_bytes field.now)) }
 {
     string_len(&field.text).saturating_add(1)
 }

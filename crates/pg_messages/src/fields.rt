@@ -4,7 +4,7 @@
 ghost use Rattle.std.specs.Prelude.{◌≡◌, IfOk};
 ghost use Rattle.std.specs.Int.{w16, w32};
 ghost use Rattle.std.specs.List.{position};
-ghost use Rattle.pg_messages.specs.Fields.{Gives, Reads, is_zero, number_at, byte_at, string_at};
+ghost use Rattle.pg_messages.specs.Fields.{ReadsAs, Reads, is_zero, number_at, byte_at, string_at};
 ghost use Rattle.pg_messages.specs.Packet.{ended};
 
 use feature_expr::{Memory, Text};
@@ -63,7 +63,7 @@ pub fn read_string(bytes: &[u8]) -> Result<(&[u8], &[u8]), usize>
 /// A string, copied.
 #[tactic(auto, unfolding(crate::specs::Fields::string_at))]
 pub fn read_text(alloc: Global, bytes: &[u8]) -> Result<(Text, &[u8]), Fault>
-    ensures { Gives (λ x. (x.0, x.1.now)) result (string_at bytes.now) }
+    ensures { ReadsAs (λ x. (x.0, x.1.now)) result (string_at bytes.now) }
 {
     let (string, rest) = read_string(bytes)?;
     let text = Text::from_slice(alloc, string)?;

@@ -1,6 +1,6 @@
 ghost use Rattle.std.specs.Prelude.{◌≡◌, ℕ, ◌≤◌, true, List, ◌++◌, length, take, not, is_some, is_ok, IfSome};
 ghost use Rattle.pg_messages.specs.declared.front.Front.{Front};
-ghost use Rattle.pg_messages.specs.Fields.{Gives};
+ghost use Rattle.pg_messages.specs.Fields.{ReadsAs};
 ghost use Rattle.pg_messages.specs.Packet.{Answers, IfWhole, IfMemory, IsWithin, TakesMemory, is_more, is_whole, length_of};
 ghost use Rattle.pg_messages.specs.FrontReading.{front_kind, front_head, front_fields, front_body, front_of, is_query, takes_memory};
 ghost use Rattle.pg_messages.specs.FrontSpelling.{IsFront};
@@ -90,7 +90,7 @@ fn kind_of(byte: u8) -> Option<FrontKind>
 
 #[tactic(auto, unfolding(crate::specs::FrontReading::front_body, crate::specs::FrontReading::front_fields))]
 fn read_front(alloc: Global, kind: FrontKind, body: &[u8]) -> Result<Front, Fault>
-    ensures exact { Gives (λ front. front) result (front_body kind body.now) }
+    ensures exact { ReadsAs (λ front. front) result (front_body kind body.now) }
     ensures memory { TakesMemory result (takes_memory kind) }
     ensures sound { TakesMemory result (is_ok (front_body kind body.now)) }
 {

@@ -1,5 +1,5 @@
 ghost use Rattle.std.specs.Prelude.{◌≡◌, ◌+◌, ◌≤◌, ◌++◌, length, vec_len, vec_capacity, OnOk, OnErr};
-ghost use Rattle.pg_messages.specs.Spelling.{Refuses, told};
+ghost use Rattle.pg_messages.specs.Spelling.{RefusesToWrite, capped};
 ghost use Rattle.pg_messages.specs.FrontSpelling.{front_byte, front_layout, front_bytes, is_spelled_front, front_refusal, IsFront};
 
 use crate::encode_refused::EncodeRefused;
@@ -14,7 +14,7 @@ pub fn encode_front(front: &Front, into: &mut Vec<u8>) -> Result<(), EncodeRefus
     ensures ok { OnOk result (into.new.items ≡ into.old.items ++ front_bytes front.now) }
     ensures spelled { OnOk result (IsFront front.now (front_bytes front.now)) }
     ensures err { OnErr result (into.new.items ≡ into.old.items) }
-    ensures refused { Refuses result (front_refusal front.now) }
+    ensures refused { RefusesToWrite result (front_refusal front.now) }
 {
     let length = checked_length(is_spelled(front), front_len(front), FRONT_LIMIT)?;
     room_for(length as usize + 1, into)?;
@@ -44,7 +44,7 @@ fn is_spelled(front: &Front) -> bool
 
 /// What the length field is to be.
 fn front_len(front: &Front) -> u64
-    ensures { result ≡ told (length (front_layout front.now) + 4) }
+    ensures { result ≡ capped (length (front_layout front.now) + 4) }
 {
     let body = match front {
         Front::Query(text) => string_len(text),

@@ -2,7 +2,7 @@
 
 ghost use Rattle.std.specs.Prelude.{◌≡◌, ◌+◌, ◌≤◌, ◌∷◌, ◌++◌, [], length, vec_len, vec_capacity, OnOk, IfErr};
 ghost use Rattle.std.specs.Int.{w16, w32, to_be_bytes, cast_unsigned};
-ghost use Rattle.pg_messages.specs.Spelling.{string, is_string, told, refusal_of, Checks};
+ghost use Rattle.pg_messages.specs.Spelling.{string, is_string, capped, refusal_of, Checks};
 
 use crate::encode_refused::EncodeRefused;
 use feature_expr::Text;
@@ -58,7 +58,7 @@ pub fn is_string_text(text: &Text) -> bool
 
 /// How many bytes a text has as a string.
 pub fn string_len(text: &Text) -> u64
-    ensures { result ≡ told (length (string text.now)) }
+    ensures { result ≡ capped (length (string text.now)) }
 {
     (text.len() as u64).saturating_add(1)
 }

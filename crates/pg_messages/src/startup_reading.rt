@@ -1,7 +1,7 @@
 ghost use Rattle.std.specs.Prelude.{◌≡◌, ℕ, ◌≤◌, true, List, ◌++◌, length, take, not, is_some, is_ok, IfSome};
 ghost use Rattle.std.specs.Option.{option_map};
 ghost use Rattle.pg_messages.specs.declared.startup.Startup.{Startup};
-ghost use Rattle.pg_messages.specs.Fields.{Gives, Passes, Reads, until_end};
+ghost use Rattle.pg_messages.specs.Fields.{ReadsAs, Passes, Reads, until_end};
 ghost use Rattle.pg_messages.specs.Packet.{Answers, IfWhole, IfMemory, IsWithin, TakesMemory, is_more, is_whole, length_of};
 ghost use Rattle.pg_messages.specs.StartupReading.{startup_kind, has_length, coded_head, startup_head, pair_of, next_pair, startup_fields, startup_of, is_start, takes_memory};
 ghost use Rattle.pg_messages.specs.StartupSpelling.{IsStartup};
@@ -128,7 +128,7 @@ fn may_have_length(kind: StartupKind, size: u32) -> bool
 
 #[tactic(auto, unfolding(crate::specs::StartupReading::startup_fields), using(crate::proofs::Packets::takes_any, crate::proofs::Passes::passed_pairs))]
 fn read_startup(alloc: Global, kind: StartupKind, body: &[u8]) -> Result<Startup, Fault>
-    ensures exact { Gives (λ startup. startup) result (startup_fields kind body.now) }
+    ensures exact { ReadsAs (λ startup. startup) result (startup_fields kind body.now) }
     ensures memory { TakesMemory result (takes_memory kind) }
     ensures sound { TakesMemory result (is_ok (startup_fields kind body.now)) }
 {
@@ -162,7 +162,7 @@ fn pass_pairs(body: &[u8]) -> Result<&[u8], usize>
 /// The parameters up to the empty name that ends them.
 #[tactic(auto, using(crate::proofs::Loops::until_fault, crate::proofs::Loops::until_none, crate::proofs::Loops::until_some, crate::proofs::Loops::until_out))]
 fn copy_pairs(alloc: Global, body: &[u8]) -> Result<(List<Pair>, &[u8]), Fault>
-    ensures { Gives (λ x. (x.0, x.1.now)) result (until_end next_pair (length body.now) body.now) }
+    ensures { ReadsAs (λ x. (x.0, x.1.now)) result (until_end next_pair (length body.now) body.now) }
 {
     let mut pairs = List::new(alloc);
     let mut rest = body;
@@ -182,7 +182,7 @@ fn copy_pairs(alloc: Global, body: &[u8]) -> Result<(List<Pair>, &[u8]), Fault>
 }
 
 fn copy_pair(alloc: Global, bytes: &[u8]) -> Result<(Option<Pair>, &[u8]), Fault>
-    ensures { Gives (λ x. (x.0, x.1.now)) result (next_pair bytes.now) }
+    ensures { ReadsAs (λ x. (x.0, x.1.now)) result (next_pair bytes.now) }
 {
     let (pair, rest) = read_pair(bytes)?;
     match pair {

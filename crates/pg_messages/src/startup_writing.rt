@@ -1,6 +1,6 @@
 ghost use Rattle.std.specs.Prelude.{◌≡◌, ◌+◌, ◌≤◌, ◌++◌, length, vec_len, vec_capacity, OnOk, OnErr};
 ghost use Rattle.std.specs.List.{flat_map, list_all};
-ghost use Rattle.pg_messages.specs.Spelling.{Refuses, told};
+ghost use Rattle.pg_messages.specs.Spelling.{RefusesToWrite, capped};
 ghost use Rattle.pg_messages.specs.StartupSpelling.{startup_code, pair_bytes, startup_layout, startup_bytes, is_pair, is_spelled_startup, startup_refusal, IsStartup};
 
 use crate::encode_refused::EncodeRefused;
@@ -15,7 +15,7 @@ pub fn encode_startup(startup: &Startup, into: &mut Vec<u8>) -> Result<(), Encod
     ensures ok { OnOk result (into.new.items ≡ into.old.items ++ startup_bytes startup.now) }
     ensures spelled { OnOk result (IsStartup startup.now (startup_bytes startup.now)) }
     ensures err { OnErr result (into.new.items ≡ into.old.items) }
-    ensures refused { Refuses result (startup_refusal startup.now) }
+    ensures refused { RefusesToWrite result (startup_refusal startup.now) }
 {
     let length = checked_length(is_spelled(startup), startup_len(startup), STARTUP_LIMIT)?;
     room_for(length as usize, into)?;
@@ -57,7 +57,7 @@ fn is_spelled_pair(pair: &Pair) -> bool
 
 /// What the length field is to be.
 fn startup_len(startup: &Startup) -> u64
-    ensures { result ≡ told (length (startup_layout startup.now) + 8) }
+    ensures { result ≡ capped (length (startup_layout startup.now) + 8) }
 {
     let rest = match startup {
         Startup::Start(pairs) => pairs_len(pairs.as_slice()).saturating_add(1),
@@ -67,7 +67,7 @@ fn startup_len(startup: &Startup) -> u64
 }
 
 fn pairs_len(pairs: &[Pair]) -> u64
-    ensures { result ≡ told (length (flat_map pair_bytes pairs.now)) }
+    ensures { result ≡ capped (length (flat_map pair_bytes pairs.now)) }
 {
     let mut total: u64 = 0;
     for pair in pairs {
@@ -77,7 +77,7 @@ fn pairs_len(pairs: &[Pair]) -> u64
 }
 
 fn pair_len(pair: &Pair) -> u64
-    ensures { result ≡ told (length (pair_bytes pair.now)) }
+    ensures { result ≡ capped (length (pair_bytes pair.now)) }
 {
     string_len(&pair.name).saturating_add(string_len(&pair.value))
 }

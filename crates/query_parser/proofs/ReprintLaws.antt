@@ -4,7 +4,7 @@ use Rattle.feature_expr.specs.Names.{refusal}
 use Rattle.feature_expr.proofs.TokenLaws.{has_tokens}
 use Rattle.vra_syntax.specs.declared.statement.Statement.{Statement}
 use Rattle.query_printer.specs.Printing.{text_of}
-use Rattle.query_parser.specs.Texts.{IsText, IsRefusedText, Gives}
+use Rattle.query_parser.specs.Texts.{IsText, IsRefusedText, GivesStatements}
 use Rattle.query_parser.specs.declared.refused.ParseRefused.{ParseRefused}
 use Rattle.query_parser.proofs.Printables.{PlainStatement, PlainStatements}
 use Rattle.query_parser.proofs.PlainLaws.{plain_statements}
@@ -22,8 +22,8 @@ module _ (names : List (List ℕ)) (none : refusal names ≡ None) (with_params 
   pub reads_printed : IsText names with_params (text_of names s) (s ∷ [])
   reads_printed = let t = has_tokens (text_of names s) in printed_text with_params names none s (text_of names s) t.tokens plain refl t.are_tokens
 
-  pub printed_found : (text : List ℕ) (found : List Statement) → text ≡ text_of names s → IsText names with_params text found → Gives (s ∷ []) (Ok found)
+  pub printed_found : (text : List ℕ) (found : List Statement) → text ≡ text_of names s → IsText names with_params text found → GivesStatements (s ∷ []) (Ok found)
   printed_found text found same t = gives_found names with_params text found (s ∷ []) t (rw same reads_printed)
 
-  pub printed_refused : (text : List ℕ) (why : ParseRefused) → text ≡ text_of names s → IsRefusedText names with_params text why → Gives (s ∷ []) (Err why)
+  pub printed_refused : (text : List ℕ) (why : ParseRefused) → text ≡ text_of names s → IsRefusedText names with_params text why → GivesStatements (s ∷ []) (Err why)
   printed_refused text why same r = gives_refused names with_params text why (s ∷ []) r (rw same reads_printed)

@@ -3,7 +3,7 @@ use Rattle.std.proofs.Common.{Bool, ◌≡◌, ◌≢◌, ℕ, List, Ok, Err, sy
 use Rattle.feature_expr.specs.declared.token.Token.{Token}
 use Rattle.feature_expr.proofs.OneLaws.{one_tokens}
 use Rattle.vra_syntax.specs.declared.statement.Statement.{Statement}
-use Rattle.query_parser.specs.Texts.{IsText, Refusal, IsRefusedText, placed_at, Gives, GivesFault}
+use Rattle.query_parser.specs.Texts.{IsText, Refusal, IsRefusedText, placed_at, GivesStatements, GivesTextFault}
 use Rattle.query_parser.specs.declared.fault.ParseFault.{ParseFault}
 use Rattle.query_parser.specs.declared.fault.ParseFault.TheVariants as fault
 use Rattle.query_parser.specs.declared.refused.ParseRefused.{ParseRefused}
@@ -56,14 +56,14 @@ module _ (names : List (List ℕ)) (with_params : Bool) (text : List ℕ) where
   pub faultless : (all : List Statement) (why : ParseRefused) → IsText names with_params text all → IsRefusedText names with_params text why → why ≡ refused.Memory
   faultless all why t r = refused_for_memory why all t r
 
-  pub gives_found : (found all : List Statement) → IsText names with_params text found → IsText names with_params text all → Gives all (Ok found)
+  pub gives_found : (found all : List Statement) → IsText names with_params text found → IsText names with_params text all → GivesStatements all (Ok found)
   gives_found found all t u = one_text found all t u
 
-  pub gives_refused : (why : ParseRefused) (all : List Statement) → IsRefusedText names with_params text why → IsText names with_params text all → Gives all (Err why)
+  pub gives_refused : (why : ParseRefused) (all : List Statement) → IsRefusedText names with_params text why → IsText names with_params text all → GivesStatements all (Err why)
   gives_refused why all r t = faultless all why t r
 
-  pub fault_found : (found : List Statement) (why : ParseRefused) → IsText names with_params text found → IsRefusedText names with_params text why → why ≢ refused.Memory → GivesFault why (Ok found)
+  pub fault_found : (found : List Statement) (why : ParseRefused) → IsText names with_params text found → IsRefusedText names with_params text why → why ≢ refused.Memory → GivesTextFault why (Ok found)
   fault_found found why t r other = not_refused found why t r other
 
-  pub fault_refused : (found why : ParseRefused) → IsRefusedText names with_params text found → IsRefusedText names with_params text why → why ≢ refused.Memory → GivesFault why (Err found)
+  pub fault_refused : (found why : ParseRefused) → IsRefusedText names with_params text found → IsRefusedText names with_params text why → why ≢ refused.Memory → GivesTextFault why (Err found)
   fault_refused found why r s other x = one_refusal found why r s x other

@@ -254,7 +254,7 @@ abbrev pub IsViable : List ℕ → List Token → ℕ → ℕ → Type 0
 IsViable text tokens limit to = Goes text tokens limit (Statements ∷ []) 0 to
 
 -- the tokens before this one begin a text, and with it they don't
-pub record IsFirstFault (text : List ℕ) (tokens : List Token) (limit at : ℕ) : Type 0 where
+pub record IsFirstTextFault (text : List ℕ) (tokens : List Token) (limit at : ℕ) : Type 0 where
   pub before : IsViable text tokens limit at
   pub never : (to : ℕ) → at < to → IsViable text tokens limit to → ⊥
 
@@ -262,8 +262,8 @@ pub record IsFirstFault (text : List ℕ) (tokens : List Token) (limit at : ℕ)
 -- nest; one of nesting where that token could stand if they might nest deeper; and each other fault at a token that could
 -- stand there
 abbrev pub IsViableFault : List ℕ → List Token → ParseFault → Type 0
-IsViableFault text tokens (fault.Syntax at) = (limit : ℕ) → NESTING_LIMIT ≤ limit → IsFirstFault text tokens limit at
-IsViableFault text tokens (fault.TooDeep at) = IsFirstFault text tokens NESTING_LIMIT at × ((limit : ℕ) → NESTING_LIMIT < limit → IsViable text tokens limit (at + 1))
+IsViableFault text tokens (fault.Syntax at) = (limit : ℕ) → NESTING_LIMIT ≤ limit → IsFirstTextFault text tokens limit at
+IsViableFault text tokens (fault.TooDeep at) = IsFirstTextFault text tokens NESTING_LIMIT at × ((limit : ℕ) → NESTING_LIMIT < limit → IsViable text tokens limit (at + 1))
 IsViableFault text tokens (fault.UnknownFeature at) = IsViable text tokens NESTING_LIMIT (at + 1)
 IsViableFault text tokens (fault.IntTooLarge at) = IsViable text tokens NESTING_LIMIT (at + 1)
 IsViableFault text tokens (fault.TooManyParams at) = IsViable text tokens NESTING_LIMIT (at + 1)

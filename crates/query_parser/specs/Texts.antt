@@ -43,11 +43,11 @@ IsRefusedText names with_params text refused.Memory = Unit {0}
 IsRefusedText names with_params text why = Refusal names with_params text why
 
 -- the answer is these statements, or memory ran out
-abbrev pub Gives : List Statement → Result (List Statement) ParseRefused → Type 0
-Gives statements (Ok found) = found ≡ statements
-Gives statements (Err why) = why ≡ refused.Memory
+abbrev pub GivesStatements : List Statement → Result (List Statement) ParseRefused → Type 0
+GivesStatements statements (Ok found) = found ≡ statements
+GivesStatements statements (Err why) = why ≡ refused.Memory
 
 -- the answer is this refusal, or memory ran out
-abbrev pub GivesFault : ParseRefused → Result (List Statement) ParseRefused → Type 0
-GivesFault why (Ok found) = ⊥
-GivesFault why (Err found) = found ≢ refused.Memory → found ≡ why
+abbrev pub GivesTextFault : ParseRefused → Result (List Statement) ParseRefused → Type 0
+GivesTextFault why (Ok found) = ⊥
+GivesTextFault why (Err found) = found ≢ refused.Memory → found ≡ why

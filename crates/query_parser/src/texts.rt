@@ -1,6 +1,6 @@
 ghost use Rattle.std.specs.Prelude.{◌≡◌, ◌≢◌, ℕ, List as ListOf, [], ◌∷◌, ◌++◌, IfOk, IfErr};
 ghost use Rattle.query_printer.specs.Printing.{text_of};
-ghost use Rattle.query_parser.specs.Texts.{IsText, IsRefusedText, Gives, GivesFault, placed_at};
+ghost use Rattle.query_parser.specs.Texts.{IsText, IsRefusedText, GivesStatements, GivesTextFault, placed_at};
 ghost use Rattle.query_parser.specs.declared.refused.ParseRefused.{ParseRefused as Why};
 ghost use Rattle.query_parser.specs.declared.refused.ParseRefused.TheVariants as refused;
 ghost use Rattle.vra_syntax.specs.declared.statement.Statement.{Statement as Parsed};
@@ -25,9 +25,9 @@ pub fn parse(
 ) -> Result<List<Statement>, ParseRefused>
     ensures ok { IfOk result (IsText features.now with_params text.now) }
     ensures err { IfErr result (IsRefusedText features.now with_params text.now) }
-    ensures read { (all : ListOf Parsed) → IsText features.now with_params text.now all → Gives all result }
-    ensures refused { (why : Why) → IsRefusedText features.now with_params text.now why → why ≢ refused.Memory → GivesFault why result }
-    ensures printed { (origin : ListOf ℕ) (before after : ListOf Parsed) (s : Parsed) → IsText features.now with_params origin (before ++ s ∷ after) → text.now ≡ text_of features.now s → Gives (s ∷ []) result }
+    ensures read { (all : ListOf Parsed) → IsText features.now with_params text.now all → GivesStatements all result }
+    ensures refused { (why : Why) → IsRefusedText features.now with_params text.now why → why ≢ refused.Memory → GivesTextFault why result }
+    ensures printed { (origin : ListOf ℕ) (before after : ListOf Parsed) (s : Parsed) → IsText features.now with_params origin (before ++ s ∷ after) → text.now ≡ text_of features.now s → GivesStatements (s ∷ []) result }
 {
     // The count shows that the names are those of features, so that each is read as its own feature.
     let _names = features.count();

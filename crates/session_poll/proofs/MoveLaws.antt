@@ -27,7 +27,7 @@ use Rattle.session_poll.specs.Session.{state_of, held_of}
 use Rattle.session_poll.specs.Standing.{works}
 use Rattle.session_poll.specs.StartUps.{Rejects, StartsUp}
 use Rattle.session_poll.specs.State.{State, in_phase}
-use Rattle.session_poll.specs.Steps.{Handles, Refuses, Step}
+use Rattle.session_poll.specs.Steps.{Handles, RefusesStart, Step}
 use Rattle.vra_syntax.specs.declared.statement.Statement.{Statement}
 
 -- the packet was dropped from what was held, and then its rule was followed
@@ -95,12 +95,12 @@ front_cut count held within kind is = record {
   cut = ap (λ (h : List ℕ). length_of (front_head h)) (take-append-drop count held) ∙ is ∙ ap Some (cut_length count held within);
 }
 
-start_skipped : (opening : Opening) (old mid new : Session) (found : Option ℕ) → length_of (startup_head (held_of old)) ≡ found → is_start (startup_head (held_of old)) ≡ true → old.phase ≡ phases.Start → Skips found old mid → Takes Refuses mid new → Moved opening old new
+start_skipped : (opening : Opening) (old mid new : Session) (found : Option ℕ) → length_of (startup_head (held_of old)) ≡ found → is_start (startup_head (held_of old)) ≡ true → old.phase ≡ phases.Start → Skips found old mid → Takes RefusesStart mid new → Moved opening old new
 start_skipped opening old mid new None there kind is s t = absurd s
 start_skipped opening old mid new (Some count) there kind is s t =
-    moved_by opening old mid new phases.Start Unread Refuses count is (λ s c r. r) s.1 t (startup_cut count (held_of old) s.0 kind there) (startup_worked count (held_of old) there)
+    moved_by opening old mid new phases.Start Unread RefusesStart count is (λ s c r. r) s.1 t (startup_cut count (held_of old) s.0 kind there) (startup_worked count (held_of old) there)
 
-pub start_unread : (opening : Opening) (old mid new : Session) → old.phase ≡ phases.Start → is_start (startup_head (held_of old)) ≡ true → Skips (length_of (startup_head (held_of old))) old mid → Takes Refuses mid new → Moved opening old new
+pub start_unread : (opening : Opening) (old mid new : Session) → old.phase ≡ phases.Start → is_start (startup_head (held_of old)) ≡ true → Skips (length_of (startup_head (held_of old))) old mid → Takes RefusesStart mid new → Moved opening old new
 start_unread opening old mid new is kind s t = start_skipped opening old mid new (length_of (startup_head (held_of old))) refl kind is s t
 
 message_skipped : (opening : Opening) (old mid new : Session) (found : Option ℕ) → length_of (front_head (held_of old)) ≡ found → is_query (front_head (held_of old)) ≡ true → old.phase ≡ phases.Ready → Skips found old mid → Takes RunsOut mid new → Moved opening old new

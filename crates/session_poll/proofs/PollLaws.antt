@@ -11,7 +11,7 @@ use Rattle.session_poll.specs.Polls.{Polls}
 use Rattle.session_poll.specs.Replies.{spelled}
 use Rattle.session_poll.specs.Runs.{Did, HasSnapshot, IsAt}
 use Rattle.session_poll.specs.Session.{state_of, held_of, waiting_of}
-use Rattle.session_poll.specs.Standing.{stands, standing_of, works}
+use Rattle.session_poll.specs.Standing.{polled_as, standing_of, works}
 use Rattle.session_poll.specs.State.{State}
 use Rattle.session_poll.specs.Steps.{Step}
 use Rattle.session_poll.proofs.RunLaws.{at_same, at_moved}
@@ -22,7 +22,7 @@ is_again polled.NeedOutput = false
 is_again polled.Closed = false
 is_again polled.Again = true
 
-stands_idle : (ended quiet : Bool) → is_again (stands false ended quiet) ≡ false
+stands_idle : (ended quiet : Bool) → is_again (polled_as false ended quiet) ≡ false
 stands_idle true true = refl
 stands_idle true false = refl
 stands_idle false true = refl

@@ -10,7 +10,7 @@ use Rattle.session_poll.specs.declared.state.Phase.TheVariants as phases
 use Rattle.session_poll.specs.Begins.{Begins}
 use Rattle.session_poll.specs.Courses.{Course, Follows, Then, goes, both}
 use Rattle.session_poll.specs.Parts.{KeepsState, IsReady, IsEnded, IsTaken, Done, Takes, Told, ToldEnd, Failed}
-use Rattle.session_poll.specs.Queries.{IsRead, is_fixed, Queries, RunsAs, RunsStatement, RunsAll, SaysEmpty, Runs, RunsOut, Closes, EndsQuery}
+use Rattle.session_poll.specs.Queries.{IsTextRead, is_fixed, Queries, RunsAs, RunsStatement, RunsAll, SaysEmpty, Runs, RunsOut, Closes, EndsQuery}
 use Rattle.session_poll.specs.Replies.{spelled, error_of, empty_query, ready_for_query}
 use Rattle.session_poll.specs.Runs.{HasSnapshot}
 use Rattle.session_poll.specs.Session.{state_of, waiting_of}
@@ -109,11 +109,11 @@ goes_on opening first left old mid new taken t = record {
 }
 
 -- a text, by what it is read as
-pub query_read : (opening : Opening) (text : List ℕ) (statements : List Statement) (old new : Session) → IsRead opening.catalog.features text (Ok statements) → Takes (RunsAll opening statements) old new → Takes (Queries opening text) old new
+pub query_read : (opening : Opening) (text : List ℕ) (statements : List Statement) (old new : Session) → IsTextRead opening.catalog.features text (Ok statements) → Takes (RunsAll opening statements) old new → Takes (Queries opening text) old new
 query_read opening text statements old new read t =
     takes_as (RunsAll opening statements) (Queries opening text) old new (λ c r. record { read = Ok statements; is_read = read; course = r }) t
 
-pub query_refused : (opening : Opening) (text : List ℕ) (why : Refusal) (old new : Session) → IsRead opening.catalog.features text (Err why) → Failed why old new → Takes (Queries opening text) old new
+pub query_refused : (opening : Opening) (text : List ℕ) (why : Refusal) (old new : Session) → IsTextRead opening.catalog.features text (Err why) → Failed why old new → Takes (Queries opening text) old new
 query_refused opening text why old new read f =
     let c : Course = goes [] (f.message ∷ ready_for_query ∷ []) (ready (state_of old)) in
     record {

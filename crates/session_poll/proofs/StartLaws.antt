@@ -12,7 +12,7 @@ use Rattle.session_poll.specs.Replies.{spelled, error_of}
 use Rattle.session_poll.specs.Session.{state_of, waiting_of}
 use Rattle.session_poll.specs.StartUps.{is_taken, welcome, Welcomes, Rejects, StartsUp}
 use Rattle.session_poll.specs.State.{State, in_phase}
-use Rattle.session_poll.specs.Steps.{Refuses}
+use Rattle.session_poll.specs.Steps.{RefusesStart}
 use Rattle.session_poll.proofs.CourseLaws.{log_kept}
 use Rattle.session_poll.proofs.FixedLaws.{out_of_memory_is}
 use Rattle.session_poll.proofs.QueryLaws.{takes_as}
@@ -33,7 +33,7 @@ welcomed opening old new put state keeps = record {
 out_put : (old mid new : List ℕ) → mid ≡ old → new ≡ mid ++ OUT_OF_MEMORY.now → new ≡ old ++ spelled (error_of refusal.OutOfMemory ∷ [])
 out_put old mid new m n = n ∙ ap (λ (b : List ℕ). b ++ OUT_OF_MEMORY.now) m ∙ ap (λ (b : List ℕ). old ++ b) out_of_memory_is
 
-pub refused : (old mid new : Session) → waiting_of mid ≡ waiting_of old → waiting_of new ≡ waiting_of mid ++ OUT_OF_MEMORY.now → KeepsState old new → Takes Refuses old new
+pub refused : (old mid new : Session) → waiting_of mid ≡ waiting_of old → waiting_of new ≡ waiting_of mid ++ OUT_OF_MEMORY.now → KeepsState old new → Takes RefusesStart old new
 refused old mid new m n keeps = record {
   course = goes [] (error_of refusal.OutOfMemory ∷ []) (state_of old);
   rule_is = refl;
@@ -44,7 +44,7 @@ refused old mid new m n keeps = record {
 }
 
 pub not_welcomed : (opening : Opening) (old mid new : Session) → waiting_of mid ≡ waiting_of old → waiting_of new ≡ waiting_of mid ++ OUT_OF_MEMORY.now → KeepsState old new → Takes (Welcomes opening) old new
-not_welcomed opening old mid new m n keeps = takes_as Refuses (Welcomes opening) old new (λ c r. inr r) (refused old mid new m n keeps)
+not_welcomed opening old mid new m n keeps = takes_as RefusesStart (Welcomes opening) old new (λ c r. inr r) (refused old mid new m n keeps)
 
 if_true : (b : Bool) (P Q : Type 0) → b ≡ true → P → MatchBool b P Q
 if_true true P Q is p = p

@@ -3,7 +3,7 @@ use Rattle.std.proofs.Common.{◌≡◌, ◌∙◌, ℕ, zero, suc, ◌+◌, ◌
 use Rattle.std.specs.List.{flat_map}
 use Rattle.feature_expr.specs.Printing.{name_of}
 use Rattle.pg_messages.specs.declared.startup.Pair.{Pair}
-use Rattle.session_poll.specs.StartUps.{later_or, value_of, listed, behind_comma, piece}
+use Rattle.session_poll.specs.StartUps.{later_or, value_of, with_commas, behind_comma, piece}
 
 later_none : (rest found : Option (List ℕ)) → later_or (later_or rest None) found ≡ later_or rest found
 later_none None found = refl
@@ -32,7 +32,7 @@ behind_more (name ∷ names) (suc k) within =
     rw order
     (ap (λ (b : List ℕ). behind_comma name ++ b) (behind_more names k (omega (arith, within))) ∙ sym (append_assoc (behind_comma name) (flat_map behind_comma (take k names)) (codes "," ++ name_of names k)))
 
-pub listed_more : (names : List (List ℕ)) (k : ℕ) → k < length names → listed (take (k + 1) names) ≡ listed (take k names) ++ piece names k
+pub listed_more : (names : List (List ℕ)) (k : ℕ) → k < length names → with_commas (take (k + 1) names) ≡ with_commas (take k names) ++ piece names k
 listed_more [] k within = absurd (omega (arith, within))
 listed_more (name ∷ names) zero within = append-nil name
 listed_more (name ∷ names) (suc k) within =

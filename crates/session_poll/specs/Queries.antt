@@ -16,11 +16,11 @@ use Rattle.vra_syntax.specs.declared.statement.Statement.{Statement}
 
 -- What a text is read as: its statements, in which no parameter may stand, or why it has none. One that isn't UTF-8 is
 -- refused for that.
-abbrev pub IsRead : List (List ℕ) → List ℕ → Result (List Statement) Refusal → Type 0
-IsRead features text (Ok statements) = IsUtf8 text × IsText features false text statements
-IsRead features text (Err refusal.NotUtf8) = IsUtf8 text → ⊥
-IsRead features text (Err (refusal.Unparsed why)) = IsUtf8 text × IsRefusedText features false text why
-IsRead features text (Err why) = ⊥
+abbrev pub IsTextRead : List (List ℕ) → List ℕ → Result (List Statement) Refusal → Type 0
+IsTextRead features text (Ok statements) = IsUtf8 text × IsText features false text statements
+IsTextRead features text (Err refusal.NotUtf8) = IsUtf8 text → ⊥
+IsTextRead features text (Err (refusal.Unparsed why)) = IsUtf8 text × IsRefusedText features false text why
+IsTextRead features text (Err why) = ⊥
 
 -- whether the error of a refusal is a reply of fixed bytes, which takes no memory
 abbrev pub is_fixed : Refusal → Bool
@@ -74,7 +74,7 @@ AnswersText opening (Err why) old c = Fails why (goes [] [] old) c
 
 pub record Queries (opening : Opening) (text : List ℕ) (old : State) (c : Course) : Type 0 where
   pub read : Result (List Statement) Refusal
-  pub is_read : IsRead opening.catalog.features text read
+  pub is_read : IsTextRead opening.catalog.features text read
   pub course : AnswersText opening read old c
 
 -- want of memory stands for the whole message

@@ -23,17 +23,17 @@ abbrev pub is_ended : Phase → Bool
 is_ended phases.Ended = true
 is_ended _ = false
 
-abbrev pub stands : Bool → Bool → Bool → Polled
-stands true ended quiet = polled.Again
-stands false ended false = polled.NeedOutput
-stands false true true = polled.Closed
-stands false false true = polled.NeedInput
+abbrev pub polled_as : Bool → Bool → Bool → Polled
+polled_as true ended quiet = polled.Again
+polled_as false ended false = polled.NeedOutput
+polled_as false true true = polled.Closed
+polled_as false false true = polled.NeedInput
 
 -- A session has ended after a Terminate and after a fatal error, and where nothing more comes and no work is left.
 abbrev pub standing_of : Session → Polled
 standing_of session =
     let work = works (state_of session).phase (held_of session) in
-    stands work (is_ended (state_of session).phase || is_over session && not work) (is_empty (waiting_of session))
+    polled_as work (is_ended (state_of session).phase || is_over session && not work) (is_empty (waiting_of session))
 
 -- behind what waits there is no room for a reply of fixed bytes
 abbrev pub IsFull : Session → Type 0

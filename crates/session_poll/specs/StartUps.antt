@@ -44,9 +44,9 @@ abbrev pub behind_comma : List ℕ → List ℕ
 behind_comma name = codes "," ++ name
 
 -- names with commas between them
-abbrev pub listed : List (List ℕ) → List ℕ
-listed [] = []
-listed (name ∷ names) = name ++ flat_map behind_comma names
+abbrev pub with_commas : List (List ℕ) → List ℕ
+with_commas [] = []
+with_commas (name ∷ names) = name ++ flat_map behind_comma names
 
 -- what the name with this number adds to them
 abbrev pub piece : List (List ℕ) → ℕ → List ℕ
@@ -68,7 +68,7 @@ fixed_parameters =
 abbrev pub welcome : Opening → List Back
 welcome opening =
     fixed_parameters ++
-    back.ParameterStatus (codes "vdb_features") (listed opening.catalog.features) ∷
+    back.ParameterStatus (codes "vdb_features") (with_commas opening.catalog.features) ∷
     back.ParameterStatus (codes "vdb_model") (text_of opening.catalog.features opening.catalog.model) ∷
     back.BackendKeyData 1 0 ∷
     ready_for_query ∷ []

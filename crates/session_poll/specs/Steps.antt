@@ -18,14 +18,14 @@ Handles opening (front.Query text) old c = Queries opening text old c
 Handles opening front.Terminate old c = c ≡ goes [] [] (ended old)
 
 -- a start-up packet was taken unread
-abbrev pub Refuses : State → Course → Type 0
-Refuses old c = c ≡ goes [] (error_of refusal.OutOfMemory ∷ []) old
+abbrev pub RefusesStart : State → Course → Type 0
+RefusesStart old c = c ≡ goes [] (error_of refusal.OutOfMemory ∷ []) old
 
 -- A packet that is taken unread is answered `out of memory`. What isn't built yet is refused, and ends the session. The
 -- next statement of a Query leaves its phase to be run. Nothing else comes.
 abbrev pub Step : Opening → Phase → Input → State → Course → Type 0
 Step opening phases.Start (StartUp packet) old c = StartsUp opening packet old c
-Step opening phases.Start Unread old c = Refuses old c
+Step opening phases.Start Unread old c = RefusesStart old c
 Step opening phases.Start Bad old c = Rejects old c
 Step opening phases.Ready (Message message) old c = Handles opening message old c
 Step opening phases.Ready Unread old c = RunsOut old c

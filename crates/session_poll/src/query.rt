@@ -1,7 +1,7 @@
 //! What a Query's text says.
 
 ghost use Rattle.std.specs.Prelude.{◌≡◌};
-ghost use Rattle.session_poll.specs.Queries.{IsRead};
+ghost use Rattle.session_poll.specs.Queries.{IsTextRead};
 ghost use Rattle.session_poll.specs.Tables.{bare_table};
 
 use crate::refusal::Refusal;
@@ -13,7 +13,7 @@ use vra_syntax::Statement;
 
 /// The statements of a text, in which no parameter may stand.
 pub fn read(alloc: Global, text: &[u8], features: &Features) -> Result<List<Statement>, Refusal>
-    ensures { IsRead features.now text.now result }
+    ensures { IsTextRead features.now text.now result }
 {
     let Ok(text) = str::from_utf8(text) else {
         return Err(Refusal::NotUtf8);

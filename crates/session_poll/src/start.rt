@@ -5,7 +5,7 @@ ghost use Rattle.session_poll.specs.Parts.{Takes, KeepsState};
 ghost use Rattle.session_poll.specs.Replies.{spelled, error_of};
 ghost use Rattle.session_poll.specs.StartUps.{StartsUp, Welcomes};
 ghost use Rattle.session_poll.specs.StartUps as rule;
-ghost use Rattle.session_poll.specs.Steps.{Refuses};
+ghost use Rattle.session_poll.specs.Steps.{RefusesStart};
 
 use crate::fixed::OUT_OF_MEMORY;
 use crate::opening::Opening;
@@ -55,7 +55,7 @@ impl Session {
     #[tactic(auto, using(crate::proofs::StartLaws::refused))]
     pub(crate) fn refuse_start(&mut self)
         requires { self.old.output.is_ready ≡ true }
-        ensures { Takes Refuses self.old self.new }
+        ensures { Takes RefusesStart self.old self.new }
     {
         self.output.put_fixed(OUT_OF_MEMORY);
     }

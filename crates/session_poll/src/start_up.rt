@@ -3,7 +3,7 @@
 ghost use Rattle.std.specs.Prelude.{◌≡◌, ◌++◌, [], ◌∷◌, map, drop, take, codes, length, Option, Some, None, not, ◌&&◌, ◌==◌, ◌<◌, if◌then◌else◌, OnOk, IfOk, IfSome, IfNone};
 ghost use Rattle.std.specs.List.{list_any, flat_map};
 ghost use Rattle.std.specs.Option.{option_map};
-ghost use Rattle.session_poll.specs.StartUps.{is_taken, is_refused_name, is_not_empty, value_of, value_in, later_or, listed, piece, fixed_parameters, welcome};
+ghost use Rattle.session_poll.specs.StartUps.{is_taken, is_refused_name, is_not_empty, value_of, value_in, later_or, with_commas, piece, fixed_parameters, welcome};
 
 use crate::opening::Opening;
 use crate::replies::parameter;
@@ -93,7 +93,7 @@ fn fixed_parameters(alloc: Global) -> Result<Vec<Back>, Memory>
 /// The names of the features, in their order, with commas between them.
 #[tactic(auto, using(crate::proofs::StartTextLaws::listed_more))]
 fn feature_names(alloc: Global, features: &Features) -> Result<Vec<u8>, Memory>
-    ensures { IfOk result (λ it. it.items ≡ listed features.now) }
+    ensures { IfOk result (λ it. it.items ≡ with_commas features.now) }
 {
     let mut names = Vec::new(alloc);
     for feature in 0..features.count() {

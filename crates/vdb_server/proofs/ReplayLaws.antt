@@ -6,7 +6,7 @@ use Rattle.session_poll.specs.Output.{is_empty}
 use Rattle.session_poll.specs.Polls.{Polls}
 use Rattle.session_poll.specs.Runs.{Did, bytes_read, replied, IsAt}
 use Rattle.session_poll.specs.Session.{held_of, waiting_of, is_over}
-use Rattle.session_poll.specs.Standing.{works, is_ended, stands, standing_of, Says}
+use Rattle.session_poll.specs.Standing.{works, is_ended, polled_as, standing_of, Says}
 use Rattle.session_poll.specs.State.{State}
 use Rattle.session_poll.specs.declared.opening.Opening.{Opening}
 use Rattle.session_poll.specs.declared.polled.Polled.{Polled}
@@ -158,7 +158,7 @@ is_closed polled.Again = false
 not_closed : (result : Polled) → is_closed result ≡ false → result ≡ polled.Closed → ⊥
 not_closed result other is = true≢false (ap is_closed (sym is) ∙ other)
 
-stands_closed : (work ended quiet : Bool) → stands work ended quiet ≡ polled.Closed → (work ≡ false) × (ended ≡ true) × (quiet ≡ true)
+stands_closed : (work ended quiet : Bool) → polled_as work ended quiet ≡ polled.Closed → (work ≡ false) × (ended ≡ true) × (quiet ≡ true)
 stands_closed true ended quiet is = absurd (not_closed polled.Again refl is)
 stands_closed false ended false is = absurd (not_closed polled.NeedOutput refl is)
 stands_closed false true true is = (refl, refl, refl)

@@ -10,7 +10,7 @@ use Rattle.vschema.specs.declared.catalog.Table.{Table}
 use Rattle.vschema.specs.Gaps.{lacks_columns, misses_value, columns_without, has_all_values_in, have_all_values}
 use Rattle.vra_types.specs.declared.refused.CheckRefused.{CheckRefused}
 use Rattle.vra_types.specs.declared.refused.CheckRefused.TheVariants as refused
-use Rattle.vra_types.specs.Check.{Gap, TableGap, RowGap, row_gaps, row_gaps_in, gaps_of, AreNowhere, ShowsFirst, RefusesGaps, Refuses, HasVariant, Passes}
+use Rattle.vra_types.specs.Check.{Gap, TableGap, RowGap, row_gaps, row_gaps_in, gaps_of, AreNowhere, ShowsFirst, RefusesGaps, RefusesCatalogue, HasVariant, Passes}
 use Rattle.vra_types.proofs.Left.{refused_before, refused_behind}
 
 module _ (model : Expr) (c : List ℕ) (admitted : IsAdmitted model c) where
@@ -55,14 +55,14 @@ never_no_variant model (TableGap table ∷ gaps) (inl h) = h
 never_no_variant model (RowGap table row column ∷ gaps) (inl h) = h
 never_no_variant model (gap ∷ gaps) (inr h) = never_no_variant model gaps h.1
 
-refuses : (catalog : Catalog) (rows : List OpeningRow) (why : CheckRefused) → RefusesGaps catalog.model (gaps_of catalog rows) why → Refuses catalog rows why
+refuses : (catalog : Catalog) (rows : List OpeningRow) (why : CheckRefused) → RefusesGaps catalog.model (gaps_of catalog rows) why → RefusesCatalogue catalog rows why
 refuses catalog rows refused.NoVariant h = absurd (never_no_variant catalog.model (gaps_of catalog rows) h)
 refuses catalog rows (refused.NoColumn name c) h = h
 refuses catalog rows (refused.MissingValue line name c) h = h
 refuses catalog rows refused.Memory h = tt
 
-pub tables_refuse : (catalog : Catalog) (rows : List OpeningRow) (why : CheckRefused) → RefusesGaps catalog.model (map TableGap catalog.tables) why → Refuses catalog rows why
+pub tables_refuse : (catalog : Catalog) (rows : List OpeningRow) (why : CheckRefused) → RefusesGaps catalog.model (map TableGap catalog.tables) why → RefusesCatalogue catalog rows why
 tables_refuse catalog rows why h = refuses catalog rows why (refused_before catalog.model (map TableGap catalog.tables) (flat_map (row_gaps catalog.tables) rows) why h)
 
-pub rows_refuse : (catalog : Catalog) (rows : List OpeningRow) (why : CheckRefused) → AreNowhere catalog.model (map TableGap catalog.tables) → RefusesGaps catalog.model (flat_map (row_gaps catalog.tables) rows) why → Refuses catalog rows why
+pub rows_refuse : (catalog : Catalog) (rows : List OpeningRow) (why : CheckRefused) → AreNowhere catalog.model (map TableGap catalog.tables) → RefusesGaps catalog.model (flat_map (row_gaps catalog.tables) rows) why → RefusesCatalogue catalog rows why
 rows_refuse catalog rows why none h = refuses catalog rows why (refused_behind catalog.model (map TableGap catalog.tables) (flat_map (row_gaps catalog.tables) rows) why none h)

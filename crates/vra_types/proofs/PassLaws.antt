@@ -8,7 +8,7 @@ use Rattle.vschema.specs.declared.catalog.Catalog.{Catalog}
 use Rattle.vschema.specs.declared.catalog.Column.{Column}
 use Rattle.vschema.specs.declared.catalog.OpeningRow.{OpeningRow}
 use Rattle.vschema.specs.declared.catalog.Table.{Table}
-use Rattle.vra_types.specs.Check.{Gap, TableGap, RowGap, row_gaps_in, row_gaps, gaps_of, IsGapAt, IsNowhere, AreNowhere, Shows, ShowsFirst, Refuses, Passes}
+use Rattle.vra_types.specs.Check.{Gap, TableGap, RowGap, row_gaps_in, row_gaps, gaps_of, IsGapAt, IsNowhere, AreNowhere, Shows, ShowsFirst, RefusesCatalogue, Passes}
 use Rattle.vra_types.specs.declared.refused.CheckRefused.{CheckRefused}
 use Rattle.vra_types.specs.declared.refused.CheckRefused.TheVariants as refused
 use Rattle.vra_types.proofs.Left.{nowhere_join}
@@ -70,7 +70,7 @@ nowhere : (catalog : Catalog) (rows : List OpeningRow) → Passes catalog rows �
 nowhere catalog rows p =
     nowhere_join catalog.model (map TableGap catalog.tables) (flat_map (row_gaps catalog.tables) rows) (tables_nowhere catalog.model catalog.tables p.no_gaps.columns) (rows_nowhere catalog.model catalog.tables rows p.no_gaps.values)
 
-pub unrefused : (catalog : Catalog) (rows : List OpeningRow) (why : CheckRefused) → Passes catalog rows → Refuses catalog rows why → why ≡ refused.Memory
+pub unrefused : (catalog : Catalog) (rows : List OpeningRow) (why : CheckRefused) → Passes catalog rows → RefusesCatalogue catalog rows why → why ≡ refused.Memory
 unrefused catalog rows refused.NoVariant p r = absurd (r.none p.variant.variant p.variant.admitted)
 unrefused catalog rows refused.Memory p r = refl
 unrefused catalog rows (refused.NoColumn name c) p r = absurd (none_shown catalog.model (gaps_of catalog rows) (refused.NoColumn name c) (nowhere catalog rows p) r)

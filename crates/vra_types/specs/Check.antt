@@ -76,9 +76,9 @@ RefusesModel model refused.Memory = Unit {0}
 RefusesModel model why = ⊥
 
 -- what each refusal of a catalogue says: that there is no variant, or which gap is the first
-abbrev pub Refuses : Catalog → List OpeningRow → CheckRefused → Type 0
-Refuses catalog rows refused.NoVariant = HasNoVariant catalog.model
-Refuses catalog rows why = RefusesGaps catalog.model (gaps_of catalog rows) why
+abbrev pub RefusesCatalogue : Catalog → List OpeningRow → CheckRefused → Type 0
+RefusesCatalogue catalog rows refused.NoVariant = HasNoVariant catalog.model
+RefusesCatalogue catalog rows why = RefusesGaps catalog.model (gaps_of catalog rows) why
 
 -- A catalogue without gaps: in each admitted variant every table that is there has a column, and every opening row that
 -- is there has a value in every column that is there.

@@ -1,5 +1,5 @@
 ghost use Rattle.std.specs.Prelude.{◌≡◌, IfOk, IfErr, OnOk};
-ghost use Rattle.vra_types.specs.Check.{HasVariant, Passes, Refuses, RefusesModel};
+ghost use Rattle.vra_types.specs.Check.{HasVariant, Passes, RefusesCatalogue, RefusesModel};
 ghost use Rattle.vra_types.specs.declared.refused.CheckRefused.TheVariants as refused;
 
 use crate::check_row::check_rows;
@@ -23,7 +23,7 @@ pub fn check_catalog(
     ensures model { IfOk result (λ model. model ≡ catalog.now.model) }
     ensures passes { OnOk result (Passes catalog.now rows.now) }
     ensures accepted { Passes catalog.now rows.now → IfErr result (λ why. why ≡ refused.Memory) }
-    ensures refused { IfErr result (λ why. Refuses catalog.now rows.now why) }
+    ensures refused { IfErr result (λ why. RefusesCatalogue catalog.now rows.now why) }
 {
     let model = checked_model(alloc, &catalog.model)?;
     check_tables(alloc, &model, catalog.tables.as_slice())?;

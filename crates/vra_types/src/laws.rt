@@ -1,5 +1,5 @@
 ghost use Rattle.std.specs.Prelude.{◌≡◌, List};
-ghost use Rattle.vra_types.specs.Check.{Refuses, Passes};
+ghost use Rattle.vra_types.specs.Check.{RefusesCatalogue, Passes};
 ghost use Rattle.vra_types.specs.declared.refused.CheckRefused.{CheckRefused};
 ghost use Rattle.vra_types.specs.declared.refused.CheckRefused.TheVariants as refused;
 ghost use Rattle.vschema.specs.declared.catalog.Catalog.{Catalog};
@@ -9,5 +9,5 @@ ghost use Rattle.vschema.specs.declared.catalog.OpeningRow.{OpeningRow};
 #[tactic(auto, using(crate::proofs::PassLaws::unrefused))]
 pub fn check_laws()
     // A catalogue that passes its check isn't refused by it.
-    ensures { (catalog : Catalog) (rows : List OpeningRow) (why : CheckRefused) → Passes catalog rows → Refuses catalog rows why → why ≡ refused.Memory }
+    ensures { (catalog : Catalog) (rows : List OpeningRow) (why : CheckRefused) → Passes catalog rows → RefusesCatalogue catalog rows why → why ≡ refused.Memory }
 {}

@@ -3,7 +3,7 @@ use Rattle.std.proofs.Common.{◌≡◌, ℕ, List, refl}
 use Rattle.std.specs.Str.{IsUtf8}
 use Rattle.feature_expr.specs.Tokens.{AreTokens}
 use Rattle.feature_expr.specs.declared.token.Token.{Token}
-use Rattle.vschema.specs.Faults.{CatalogueFault}
+use Rattle.vschema.specs.Faults.{FileFault}
 use Rattle.vschema.specs.declared.fault.CatalogFault.{CatalogFault}
 use Rattle.vschema.specs.declared.fault.CatalogFault.TheVariants as fault
 use Rattle.vschema.specs.declared.refused.CatalogRefused.{CatalogRefused}
@@ -14,7 +14,7 @@ use Rattle.vschema.specs.declared.catalog.Catalog.{Catalog}
 use Rattle.vschema.specs.declared.catalog.OpeningRow.{OpeningRow}
 use Rattle.vschema.specs.Refusals.{IsRefused, Refuses, refused_at}
 
-pub is_refused : (text : List ℕ) (tokens : List Token) (f : CatalogFault) → IsUtf8 text → AreTokens text tokens → CatalogueFault text tokens f → IsRefused (refused_at text tokens f) text
+pub is_refused : (text : List ℕ) (tokens : List Token) (f : CatalogFault) → IsUtf8 text → AreTokens text tokens → FileFault text tokens f → IsRefused (refused_at text tokens f) text
 is_refused text tokens f utf8 are is = record { is_text = utf8; tokens = tokens; are_tokens = are; fault = f; is_fault = is; viable = is_viable_fault text tokens f is; placed = refl }
 
 refuses : (text : List ℕ) (tokens : List Token) (f : CatalogFault) → IsRefused (refused_at text tokens f) text → Refuses (refused_at text tokens f) text
@@ -26,7 +26,7 @@ refuses text tokens (fault.WrongKind at) r = r
 refuses text tokens (fault.Limit at which) r = r
 refuses text tokens fault.Memory r = tt
 
-pub refused_text : (text : List ℕ) (tokens : List Token) (f : CatalogFault) (why : CatalogRefused) → IsUtf8 text → AreTokens text tokens → CatalogueFault text tokens f → why ≡ refused_at text tokens f → Refuses why text
+pub refused_text : (text : List ℕ) (tokens : List Token) (f : CatalogFault) (why : CatalogRefused) → IsUtf8 text → AreTokens text tokens → FileFault text tokens f → why ≡ refused_at text tokens f → Refuses why text
 refused_text text tokens f why utf8 are is placed = rw placed (refuses text tokens f (is_refused text tokens f utf8 are is))
 
 pub is_catalogue : (text : List ℕ) (tokens : List Token) (catalog : Catalog) (rows : List OpeningRow) → IsUtf8 text → AreTokens text tokens → SpellCatalogue text tokens catalog rows → IsCatalogue text catalog rows

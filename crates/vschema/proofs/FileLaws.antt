@@ -4,7 +4,7 @@ use Rattle.std.specs.Str.{IsUtf8}
 use Rattle.feature_expr.specs.declared.token.Token.{Token}
 use Rattle.feature_expr.proofs.OneLaws.{one_tokens}
 use Rattle.vschema.specs.Files.{IsCatalogue}
-use Rattle.vschema.specs.Refusals.{refused_at, IsRefused, Refuses, Gives, GivesFault}
+use Rattle.vschema.specs.Refusals.{refused_at, IsRefused, Refuses, GivesCatalogue, GivesFileFault}
 use Rattle.vschema.specs.declared.catalog.Catalog.{Catalog}
 use Rattle.vschema.specs.declared.catalog.OpeningRow.{OpeningRow}
 use Rattle.vschema.specs.declared.fault.CatalogFault.{CatalogFault}
@@ -82,14 +82,14 @@ module _ (bytes : List ℕ) where
   one_refusal (refused.Limit line most) other r s x y = one_fault_of (refused.Limit line most) other r s x y
   one_refusal refused.Memory other r s x y = absurd (x refl)
 
-  pub gives_found : (found : Catalog × List OpeningRow) (catalog : Catalog) (rows : List OpeningRow) → IsCatalogue bytes found.0 found.1 → IsCatalogue bytes catalog rows → Gives catalog rows (Ok found)
+  pub gives_found : (found : Catalog × List OpeningRow) (catalog : Catalog) (rows : List OpeningRow) → IsCatalogue bytes found.0 found.1 → IsCatalogue bytes catalog rows → GivesCatalogue catalog rows (Ok found)
   gives_found found catalog rows c d = one_catalogue found.0 catalog found.1 rows c d
 
-  pub gives_refused : (why : CatalogRefused) (catalog : Catalog) (rows : List OpeningRow) → Refuses why bytes → IsCatalogue bytes catalog rows → Gives catalog rows (Err why)
+  pub gives_refused : (why : CatalogRefused) (catalog : Catalog) (rows : List OpeningRow) → Refuses why bytes → IsCatalogue bytes catalog rows → GivesCatalogue catalog rows (Err why)
   gives_refused why catalog rows r c = faultless catalog rows why c r
 
-  pub fault_found : (found : Catalog × List OpeningRow) (why : CatalogRefused) → IsCatalogue bytes found.0 found.1 → Refuses why bytes → why ≢ refused.Memory → GivesFault why (Ok found)
+  pub fault_found : (found : Catalog × List OpeningRow) (why : CatalogRefused) → IsCatalogue bytes found.0 found.1 → Refuses why bytes → why ≢ refused.Memory → GivesFileFault why (Ok found)
   fault_found found why c r other = not_refused found.0 found.1 why c r other
 
-  pub fault_refused : (found why : CatalogRefused) → Refuses found bytes → Refuses why bytes → why ≢ refused.Memory → GivesFault why (Err found)
+  pub fault_refused : (found why : CatalogRefused) → Refuses found bytes → Refuses why bytes → why ≢ refused.Memory → GivesFileFault why (Err found)
   fault_refused found why r s other x = one_refusal found why r s x other

@@ -21,7 +21,7 @@ use Rattle.feature_expr.specs.declared.token.Token.{Token}
 use Rattle.feature_expr.specs.declared.value.Value.{Value}
 use Rattle.vschema.specs.Limits.{most_tables}
 use Rattle.vschema.specs.Formed.{below_step, features_below, distinct, table_names, column_names, has_names, column_features_below, table_features_below, row_features_below, has_distinct_columns, CellsFit, FitsTable, RowFits, IsFormed}
-use Rattle.vschema.specs.Words.{name_at, lower, folded_at}
+use Rattle.vschema.specs.Words.{spelled_name_at, lower, folded_at}
 use Rattle.vschema.specs.Spelling.{column_place, table_place, IsModel, no_model, some_model, IsWhen, no_when, some_when, IsColumn, ColumnsBefore, no_column_yet, another_column, AreColumns, IsTable, no_cells, CellsBefore, no_cell_yet, another_cell, AreCells, IsRow, IsEntry, tables_with, rows_with, EntriesTo, no_entry_yet, another_entry, SpellCatalogue}
 use Rattle.vschema.specs.declared.catalog.Catalog.{Catalog}
 use Rattle.vschema.specs.declared.catalog.Column.{Column}
@@ -221,7 +221,7 @@ fit_more : (tables : List Table) (other : Table) (rows : List OpeningRow) → Al
 fit_more tables other rows all k d within = fits_more_at tables other (slice_index_or rows k d) (slice_get tables (slice_index_or rows k d).table) refl (all k d within)
 
 module _ (names : List (List ℕ)) (text : List ℕ) (tokens : List Token) where
-  folded_from : (at : ℕ) (name : List ℕ) (found : Option (List ℕ)) → name_at text tokens at ≡ found → lower found ≡ Some name → is_name_of name ≡ true
+  folded_from : (at : ℕ) (name : List ℕ) (found : Option (List ℕ)) → spelled_name_at text tokens at ≡ found → lower found ≡ Some name → is_name_of name ≡ true
   folded_from at name (Some word) is e =
       let same : map to_ascii_lowercase word ≡ name = cc e in
       rw (sym same) (name_lower word ∙ is_a_name text tokens at word is)
@@ -229,7 +229,7 @@ module _ (names : List (List ℕ)) (text : List ℕ) (tokens : List Token) where
 
   folded_is_name : (at : ℕ) (name : List ℕ) → folded_at text tokens at ≡ Some name → is_name_of name ≡ true
   unfolding folded_at
-  folded_is_name at name e = folded_from at name (name_at text tokens at) refl e
+  folded_is_name at name e = folded_from at name (spelled_name_at text tokens at) refl e
 
   feature_within : (token : Option Token) (i : ℕ) → feature_of names text token ≡ Some i → nat_lt i (length names) ≡ true
   feature_within (Some token) i e = below i (length names) (position-Some (λ name. bytes_eq name (bytes_of text token)) names i [] e).0

@@ -10,10 +10,10 @@ use Rattle.feature_expr.specs.declared.expr.Expr.{Expr}
 use Rattle.feature_expr.specs.declared.token.Token.{Token}
 use Rattle.feature_expr.specs.declared.value.Kind.{Kind}
 use Rattle.feature_expr.specs.declared.value.Value.{Value}
-use Rattle.vschema.specs.Words.{stands, name_at, lower, folded_at, kind_at, value_at}
+use Rattle.vschema.specs.Words.{stands, spelled_name_at, lower, folded_at, kind_at, value_at}
 use Rattle.vschema.specs.Spelling.{NewFeature, FeaturesBefore, no_feature_yet, another_feature, IsHead, no_features, some_features, IsModel, no_model, some_model, IsWhen, no_when, some_when, IsTail, IsColumn, ColumnsBefore, no_column_yet, another_column, AreColumns, IsTable, IsCell, CellsBefore, no_cell_yet, another_cell, AreCells, IsRow, IsEntry, EntriesTo, no_entry_yet, another_entry, SpellCatalogue}
-use Rattle.vschema.specs.Faults.{ExpressionFault, FeatureFault, feature_memory, no_feature_name, feature_again, one_feature_more, HeadFault, head_memory, no_features_word, at_feature, features_unended, ModelFault, in_model, model_unended, WhenFault, TailFault, in_tail_condition, tail_unended, ColumnNameFault, column_name_memory, no_column_name, column_again, one_column_more, ColumnFault, column_memory, at_column_name, no_kind, in_column_condition, ColumnsFault, columns_memory, at_column, columns_unclosed, TableNameFault, table_name_memory, no_table_name, table_again, one_table_more, TableFault, at_table_name, table_unopened, in_columns, in_table_tail, CellNameFault, cell_name_memory, no_cell_name, no_such_column, cell_again, CellFault, cell_memory, at_cell_name, no_value, another_kind, CellsFault, cells_memory, at_cell, cells_unclosed, RowNameFault, row_name_memory, no_row_name, no_such_table, RowFault, at_row_name, row_unopened, in_cells, in_row_tail, EntryFault, entry_memory, in_table, in_row, no_entry, CatalogueFault, catalogue_memory, in_head, at_model, in_entries}
-use Rattle.vschema.specs.CatalogueGrammar.{Form, fitting, outer, Expression, Goes, IsViable, IsFirstFault, IsViableFault, MODEL, TABLE, ROW, WHEN, OPEN, CLOSE, COMMA, SEMICOLON, NAME, KIND, VALUE, END, Names, MoreNames, ModelLine, Entries, Columns, MoreColumns, Cells, MoreCells, InnerWhen, When}
+use Rattle.vschema.specs.Faults.{ExpressionFault, FeatureFault, feature_memory, no_feature_name, feature_again, one_feature_more, HeadFault, head_memory, no_features_word, at_feature, features_unended, ModelFault, in_model, model_unended, WhenFault, TailFault, in_tail_condition, tail_unended, ColumnNameFault, column_name_memory, no_column_name, column_again, one_column_more, ColumnFault, column_memory, at_column_name, no_kind, in_column_condition, ColumnsFault, columns_memory, at_column, columns_unclosed, TableNameFault, table_name_memory, no_table_name, table_again, one_table_more, TableFault, at_table_name, table_unopened, in_columns, in_table_tail, CellNameFault, cell_name_memory, no_cell_name, no_such_column, cell_again, CellFault, cell_memory, at_cell_name, no_value, another_kind, CellsFault, cells_memory, at_cell, cells_unclosed, RowNameFault, row_name_memory, no_row_name, no_such_table, RowFault, at_row_name, row_unopened, in_cells, in_row_tail, EntryFault, entry_memory, in_table, in_row, no_entry, FileFault, catalogue_memory, in_head, at_model, in_entries}
+use Rattle.vschema.specs.CatalogueGrammar.{Form, fitting, outer, Expression, Goes, IsViable, IsFirstFileFault, IsViableFault, MODEL, TABLE, ROW, WHEN, OPEN, CLOSE, COMMA, SEMICOLON, NAME, KIND, VALUE, END, Names, MoreNames, ModelLine, Entries, Columns, MoreColumns, Cells, MoreCells, InnerWhen, When}
 use Rattle.vschema.specs.declared.catalog.Catalog.{Catalog}
 use Rattle.vschema.specs.declared.catalog.Column.{Column}
 use Rattle.vschema.specs.declared.catalog.OpeningRow.{OpeningRow}
@@ -43,11 +43,11 @@ module _ (text : List ℕ) (tokens : List Token) where
   -- a folded name is a name of the grammar
   folded_fits : (at : ℕ) (name : List ℕ) → folded_at text tokens at ≡ Some name → fitting text tokens 9 at ≡ true
   unfolding folded_at
-  folded_fits at name e = named_of_lower (name_at text tokens at) name e
+  folded_fits at name e = named_of_lower (spelled_name_at text tokens at) name e
 
   folded_none : (at : ℕ) → folded_at text tokens at ≡ None → fitting text tokens 9 at ≡ false
   unfolding folded_at
-  folded_none at e = no_name_of_lower (name_at text tokens at) e
+  folded_none at e = no_name_of_lower (spelled_name_at text tokens at) e
 
   not_both : (b : Bool) → b ≡ true → b ≡ false → ⊥
   not_both b e f = cc (e, f)
@@ -58,7 +58,7 @@ module _ (text : List ℕ) (tokens : List Token) where
 
   -- a name isn't a sign of another class
   name_isnt : (at : ℕ) → fitting text tokens 9 at ≡ true → class_at text tokens at ≡ 2 → ⊥
-  name_isnt at e two = let one = named_class text tokens at (name_at text tokens at) refl e in absurd (omega (arith, one, two))
+  name_isnt at e two = let one = named_class text tokens at (spelled_name_at text tokens at) refl e in absurd (omega (arith, one, two))
 
   semicolon_class : (at : ℕ) → fitting text tokens 8 at ≡ true → class_at text tokens at ≡ 2
   semicolon_class at e = sign_class text tokens sign.Semicolon at e
@@ -81,14 +81,14 @@ module _ (text : List ℕ) (tokens : List Token) where
   names_open all to no_feature_yet features name =
       chosen text tokens 0 ((SEMICOLON ∷ []) ∷ []) (NAME ∷ MoreNames ∷ []) [] (ModelLine ∷ Entries ∷ []) 1 refl (never text tokens 8 (ModelLine ∷ Entries ∷ []) 1 (λ e. name_isnt 1 name (semicolon_class 1 e)), tt) tt (pass text tokens 0 (Names ∷ ModelLine ∷ Entries ∷ []) 0 features (begins text tokens))
   names_open all to (another_feature names word at before new comma) features name =
-      let more = pass text tokens 9 (MoreNames ∷ ModelLine ∷ Entries ∷ []) at (is_some_of (name_at text tokens at) word new.named) (names_open names at before features (is_some_of (name_at text tokens at) word new.named)) in
+      let more = pass text tokens 9 (MoreNames ∷ ModelLine ∷ Entries ∷ []) at (is_some_of (spelled_name_at text tokens at) word new.named) (names_open names at before features (is_some_of (spelled_name_at text tokens at) word new.named)) in
       let open_comma = chosen text tokens 1 ((SEMICOLON ∷ []) ∷ []) (COMMA ∷ NAME ∷ MoreNames ∷ []) [] (ModelLine ∷ Entries ∷ []) (at + 1) refl (never text tokens 8 (ModelLine ∷ Entries ∷ []) (at + 1) (λ e. comma_semicolon text tokens (at + 1) comma e), tt) tt more in
       moved text tokens (NAME ∷ MoreNames ∷ ModelLine ∷ Entries ∷ []) (at + 1 + 1) (at + 2) (omega arith) (pass text tokens 7 (NAME ∷ MoreNames ∷ ModelLine ∷ Entries ∷ []) (at + 1) comma open_comma)
 
   -- behind it
   names_more : (names : List (List ℕ)) (name : List ℕ) (at : ℕ) → FeaturesBefore text tokens names at → NewFeature text tokens names at name → stands text tokens 0 sign.Features ≡ true → Stands text tokens (MoreNames ∷ ModelLine ∷ Entries ∷ []) (at + 1)
   names_more names name at before new features =
-      let fit = is_some_of (name_at text tokens at) name new.named in
+      let fit = is_some_of (spelled_name_at text tokens at) name new.named in
       pass text tokens 9 (MoreNames ∷ ModelLine ∷ Entries ∷ []) at fit (names_open names at before features fit)
 
   head_open : (names : List (List ℕ)) (end : ℕ) → IsHead text tokens names end → Stands text tokens (ModelLine ∷ Entries ∷ []) end
@@ -97,16 +97,16 @@ module _ (text : List ℕ) (tokens : List Token) where
   head_open all end (some_features names name at features before new semicolon) =
       moved text tokens (ModelLine ∷ Entries ∷ []) (at + 1 + 1) (at + 2) (omega arith) (pass text tokens 8 (ModelLine ∷ Entries ∷ []) (at + 1) semicolon (chosen text tokens 1 [] (SEMICOLON ∷ []) ((COMMA ∷ NAME ∷ MoreNames ∷ []) ∷ []) (ModelLine ∷ Entries ∷ []) (at + 1) refl tt (never text tokens 7 (NAME ∷ MoreNames ∷ ModelLine ∷ Entries ∷ []) (at + 1) (λ e. comma_semicolon text tokens (at + 1) e semicolon), tt) (names_more names name at before new features)))
 
-  no_name_here : (names : List (List ℕ)) (at : ℕ) → FeaturesBefore text tokens names at → stands text tokens 0 sign.Features ≡ true → stands text tokens 1 sign.Semicolon ≡ false → name_at text tokens at ≡ None → IsFirstFault text tokens at
+  no_name_here : (names : List (List ℕ)) (at : ℕ) → FeaturesBefore text tokens names at → stands text tokens 0 sign.Features ≡ true → stands text tokens 1 sign.Semicolon ≡ false → spelled_name_at text tokens at ≡ None → IsFirstFileFault text tokens at
   no_name_here all to no_feature_yet features some none =
-      no_form text tokens 0 ((SEMICOLON ∷ []) ∷ (NAME ∷ MoreNames ∷ []) ∷ []) (ModelLine ∷ Entries ∷ []) 1 refl (never text tokens 8 (ModelLine ∷ Entries ∷ []) 1 (λ e. cc (e, some)), (never text tokens 9 (MoreNames ∷ ModelLine ∷ Entries ∷ []) 1 (λ e. cc (e, not_some_of (name_at text tokens 1) none)), tt)) (pass text tokens 0 (Names ∷ ModelLine ∷ Entries ∷ []) 0 features (begins text tokens))
+      no_form text tokens 0 ((SEMICOLON ∷ []) ∷ (NAME ∷ MoreNames ∷ []) ∷ []) (ModelLine ∷ Entries ∷ []) 1 refl (never text tokens 8 (ModelLine ∷ Entries ∷ []) 1 (λ e. cc (e, some)), (never text tokens 9 (MoreNames ∷ ModelLine ∷ Entries ∷ []) 1 (λ e. cc (e, not_some_of (spelled_name_at text tokens 1) none)), tt)) (pass text tokens 0 (Names ∷ ModelLine ∷ Entries ∷ []) 0 features (begins text tokens))
   no_name_here all to (another_feature names word at before new comma) features some none =
       let open_comma = chosen text tokens 1 ((SEMICOLON ∷ []) ∷ []) (COMMA ∷ NAME ∷ MoreNames ∷ []) [] (ModelLine ∷ Entries ∷ []) (at + 1) refl (never text tokens 8 (ModelLine ∷ Entries ∷ []) (at + 1) (λ e. comma_semicolon text tokens (at + 1) comma e), tt) tt (names_more names word at before new features) in
-      stops text tokens 9 (MoreNames ∷ ModelLine ∷ Entries ∷ []) (at + 2) (not_some_of (name_at text tokens (at + 2)) none) (moved text tokens (NAME ∷ MoreNames ∷ ModelLine ∷ Entries ∷ []) (at + 1 + 1) (at + 2) (omega arith) (pass text tokens 7 (NAME ∷ MoreNames ∷ ModelLine ∷ Entries ∷ []) (at + 1) comma open_comma))
+      stops text tokens 9 (MoreNames ∷ ModelLine ∷ Entries ∷ []) (at + 2) (not_some_of (spelled_name_at text tokens (at + 2)) none) (moved text tokens (NAME ∷ MoreNames ∷ ModelLine ∷ Entries ∷ []) (at + 1 + 1) (at + 2) (omega arith) (pass text tokens 7 (NAME ∷ MoreNames ∷ ModelLine ∷ Entries ∷ []) (at + 1) comma open_comma))
 
-  at_name : (names : List (List ℕ)) (name : List ℕ) (at : ℕ) → FeaturesBefore text tokens names at → stands text tokens 0 sign.Features ≡ true → name_at text tokens at ≡ Some name → IsViable text tokens (at + 1)
+  at_name : (names : List (List ℕ)) (name : List ℕ) (at : ℕ) → FeaturesBefore text tokens names at → stands text tokens 0 sign.Features ≡ true → spelled_name_at text tokens at ≡ Some name → IsViable text tokens (at + 1)
   at_name names name at before features named =
-      let fit = is_some_of (name_at text tokens at) name named in
+      let fit = is_some_of (spelled_name_at text tokens at) name named in
       reached text tokens (MoreNames ∷ ModelLine ∷ Entries ∷ []) (at + 1) (pass text tokens 9 (MoreNames ∷ ModelLine ∷ Entries ∷ []) at fit (names_open names at before features fit))
 
   feature_fault : (names : List (List ℕ)) (at : ℕ) (why : CatalogFault) → FeaturesBefore text tokens names at → stands text tokens 0 sign.Features ≡ true → stands text tokens 1 sign.Semicolon ≡ false → FeatureFault text tokens names at why → IsViableFault text tokens why
@@ -322,7 +322,7 @@ module _ (text : List ℕ) (tokens : List Token) where
       no_form text tokens 3 ((END ∷ []) ∷ TableForm ∷ RowForm ∷ []) [] at refl (never text tokens 12 [] at (end_at at within), (never text tokens 2 (NAME ∷ OPEN ∷ Columns ∷ When ∷ SEMICOLON ∷ Entries ∷ []) at (λ e. cc (e, table)), (never text tokens 3 (NAME ∷ OPEN ∷ Cells ∷ When ∷ SEMICOLON ∷ Entries ∷ []) at (λ e. cc (e, row)), tt))) s
 
   -- each fault of a file
-  pub is_viable_fault : (why : CatalogFault) → CatalogueFault text tokens why → IsViableFault text tokens why
+  pub is_viable_fault : (why : CatalogFault) → FileFault text tokens why → IsViableFault text tokens why
   is_viable_fault why catalogue_memory = tt
   is_viable_fault why (in_head inner f) = head_fault inner f
   is_viable_fault why (at_model names body inner head f) = model_fault names body inner f (head_open names body head)

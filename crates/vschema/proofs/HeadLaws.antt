@@ -10,7 +10,7 @@ use Rattle.feature_expr.specs.declared.token.Token.{Token}
 use Rattle.feature_expr.specs.declared.token.TokenKind.{TokenKind}
 use Rattle.feature_expr.specs.declared.token.TokenKind.TheVariants as token_kind
 use Rattle.feature_expr.specs.Tokens.{bytes_of}
-use Rattle.vschema.specs.Words.{stands, name_at, name_of, name_of_kind}
+use Rattle.vschema.specs.Words.{stands, spelled_name_at, name_of, name_of_kind}
 use Rattle.vschema.specs.Spelling.{NewFeature, FeaturesBefore, no_feature_yet, another_feature, IsHead, no_features, some_features}
 use Rattle.vschema.specs.declared.words.Sign.TheVariants as sign
 
@@ -39,8 +39,8 @@ module _ (text : List ℕ) (tokens : List Token) where
   name_of_token None name e = absurd (cc e)
 
   -- a name that is read is one
-  pub is_a_name : (at : ℕ) (name : List ℕ) → name_at text tokens at ≡ Some name → is_name_of name ≡ true
-  unfolding name_at
+  pub is_a_name : (at : ℕ) (name : List ℕ) → spelled_name_at text tokens at ≡ Some name → is_name_of name ≡ true
+  unfolding spelled_name_at
   is_a_name at name e = name_of_token (slice_get tokens at) name e
 
   rest_refusal : (place : ℕ) (before names : List (List ℕ)) (first : List ℕ) (b d : Bool) → is_name_of first ≡ b → among first before ≡ d → refusal_from place before (first ∷ names) ≡ None → (is_name_of first ≡ true) × (among first before ≡ false) × (refusal_from (place + 1) (before ++ first ∷ []) names ≡ None)

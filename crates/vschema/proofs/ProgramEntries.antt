@@ -5,7 +5,7 @@ use Rattle.std.proofs.lemmas.Bool.Decides.{nat_tests}
 use Rattle.feature_expr.specs.declared.expr.Expr.{Expr}
 use Rattle.feature_expr.specs.declared.token.Token.{Token}
 use Rattle.vschema.specs.Limits.{most_tables}
-use Rattle.vschema.specs.Faults.{TableNameFault, table_name_memory, no_table_name, table_again, one_table_more, TableFault, at_table_name, table_unopened, in_columns, in_table_tail, RowNameFault, row_name_memory, no_row_name, no_such_table, RowFault, at_row_name, row_unopened, in_cells, in_row_tail, EntryFault, entry_memory, in_table, in_row, no_entry, CatalogueFault, catalogue_memory, in_head, at_model, in_entries}
+use Rattle.vschema.specs.Faults.{TableNameFault, table_name_memory, no_table_name, table_again, one_table_more, TableFault, at_table_name, table_unopened, in_columns, in_table_tail, RowNameFault, row_name_memory, no_row_name, no_such_table, RowFault, at_row_name, row_unopened, in_cells, in_row_tail, EntryFault, entry_memory, in_table, in_row, no_entry, FileFault, catalogue_memory, in_head, at_model, in_entries}
 use Rattle.vschema.specs.Spelling.{IsTable, IsRow, IsEntry, tables_with, rows_with, EntriesTo, no_entry_yet, another_entry, SpellCatalogue}
 use Rattle.vschema.specs.Words.{stands, line_number}
 use Rattle.vschema.specs.declared.catalog.Catalog.{Catalog}
@@ -113,7 +113,7 @@ module _ (text : List ℕ) (tokens : List Token) where
       reads_head text tokens catalog.features d.body d.head behind_head (Ok (catalog, rows)) (reads_model text tokens catalog.features d.body catalog.model d.entries d.model (behind_model catalog.features) (Ok (catalog, rows))
       (reads_entries catalog.features d.entries catalog.tables rows (length tokens) d.all_entries (whole catalog.features catalog.model) (Ok (catalog, rows)) (asks (MoreEntries catalog.features catalog.tables rows (length tokens)) (whole catalog.features catalog.model) (Ok (catalog, rows)) (rw (no_word sign.Table refl, no_word sign.Row refl, at_end (length tokens)) (ends (Ok (catalog, rows)))))))
 
-  fails_file : (why : CatalogFault) → CatalogueFault text tokens why → why ≢ fault.Memory → R text tokens file (Err why)
+  fails_file : (why : CatalogFault) → FileFault text tokens why → why ≢ fault.Memory → R text tokens file (Err why)
   fails_file why catalogue_memory other = absurd (other refl)
   fails_file why (in_head w f) other = fails_head text tokens why f other behind_head
   fails_file why (at_model names body w d f) other = reads_head text tokens names body d behind_head (Err why) (fails_model text tokens names body why f other (behind_model names))
@@ -130,9 +130,9 @@ module _ (text : List ℕ) (tokens : List Token) where
   one_file catalog catalog' rows rows' d d' = both (catalog, rows) (catalog', rows') (one_answer text tokens file (Ok (catalog, rows)) (Ok (catalog', rows')) (reads_file catalog rows d) (reads_file catalog' rows' d'))
 
   -- and then they have no fault
-  pub no_fault : (catalog : Catalog) (rows : List OpeningRow) (why : CatalogFault) → SpellCatalogue text tokens catalog rows → CatalogueFault text tokens why → why ≢ fault.Memory → ⊥
+  pub no_fault : (catalog : Catalog) (rows : List OpeningRow) (why : CatalogFault) → SpellCatalogue text tokens catalog rows → FileFault text tokens why → why ≢ fault.Memory → ⊥
   no_fault catalog rows why d f other = cc (one_answer text tokens file (Ok (catalog, rows)) (Err why) (reads_file catalog rows d) (fails_file why f other))
 
   -- or have one
-  pub one_fault : (why why' : CatalogFault) → CatalogueFault text tokens why → CatalogueFault text tokens why' → why ≢ fault.Memory → why' ≢ fault.Memory → why ≡ why'
+  pub one_fault : (why why' : CatalogFault) → FileFault text tokens why → FileFault text tokens why' → why ≢ fault.Memory → why' ≢ fault.Memory → why ≡ why'
   one_fault why why' f f' other other' = cc (one_answer text tokens file (Err why) (Err why') (fails_file why f other) (fails_file why' f' other'))

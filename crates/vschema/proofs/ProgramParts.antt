@@ -12,7 +12,7 @@ use Rattle.feature_expr.specs.declared.value.Value.{Value}
 use Rattle.vschema.specs.Limits.{most_columns}
 use Rattle.vschema.specs.Faults.{FeatureFault, feature_memory, no_feature_name, feature_again, one_feature_more, HeadFault, head_memory, no_features_word, at_feature, features_unended, ModelFault, in_model, model_unended, WhenFault, TailFault, in_tail_condition, tail_unended, ColumnNameFault, column_name_memory, no_column_name, column_again, one_column_more, ColumnFault, column_memory, at_column_name, no_kind, in_column_condition, ColumnsFault, columns_memory, at_column, columns_unclosed, CellNameFault, cell_name_memory, no_cell_name, no_such_column, cell_again, CellFault, cell_memory, at_cell_name, no_value, another_kind, CellsFault, cells_memory, at_cell, cells_unclosed}
 use Rattle.vschema.specs.Spelling.{NewFeature, FeaturesBefore, no_feature_yet, another_feature, IsHead, no_features, some_features, IsModel, no_model, some_model, IsWhen, no_when, some_when, IsTail, IsColumn, ColumnsBefore, no_column_yet, another_column, AreColumns, no_cells, IsCell, CellsBefore, no_cell_yet, another_cell, AreCells}
-use Rattle.vschema.specs.Words.{stands, name_at}
+use Rattle.vschema.specs.Words.{stands, spelled_name_at}
 use Rattle.vschema.specs.declared.catalog.Column.{Column}
 use Rattle.vschema.specs.declared.fault.CatalogFault.{CatalogFault}
 use Rattle.vschema.specs.declared.fault.CatalogFault.TheVariants as fault
@@ -58,7 +58,7 @@ module _ (text : List ℕ) (tokens : List Token) where
   none_more at ended = not_true (stands text tokens at sign.Comma) (λ h. comma_semicolon text tokens at h ended)
 
   -- a name is no semicolon
-  name_or_end : (at : ℕ) (name : List ℕ) → name_at text tokens at ≡ Some name → stands text tokens at sign.Semicolon ≡ true → ⊥
+  name_or_end : (at : ℕ) (name : List ℕ) → spelled_name_at text tokens at ≡ Some name → stands text tokens at sign.Semicolon ≡ true → ⊥
   name_or_end at name named is =
       let one = named_class text tokens at (Some name) named refl in
       let two = sign_class text tokens sign.Semicolon at is in

@@ -13,7 +13,7 @@ use Rattle.feature_expr.specs.declared.value.Value.{Value}
 use Rattle.vschema.specs.Limits.{most_tables, most_columns}
 use Rattle.vschema.specs.Faults.{ExpressionFault}
 use Rattle.vschema.specs.Spelling.{column_place, table_place, IsExpression, no_cells, has_value}
-use Rattle.vschema.specs.Words.{stands, name_at, folded_at, kind_at, value_at, line_number}
+use Rattle.vschema.specs.Words.{stands, spelled_name_at, folded_at, kind_at, value_at, line_number}
 use Rattle.vschema.specs.declared.catalog.Catalog.{Catalog}
 use Rattle.vschema.specs.declared.catalog.Column.{Column}
 use Rattle.vschema.specs.declared.catalog.OpeningRow.{OpeningRow}
@@ -104,7 +104,7 @@ module _ (text : List ℕ) (tokens : List Token) where
   abbrev pub body : (goal : Goal) → (Spelled goal → ℕ → Program) → Program
   body AHead k = need (is 0 sign.Features) 0 (choose (is 1 sign.Semicolon) (k [] 2) (Ask (MoreFeatures [] 1) k))
   body (MoreFeatures before at) k =
-      another (name_at text tokens at) (λ name. among name before) (nat_lt (length before) feature_limit) at which.Features (λ name.
+      another (spelled_name_at text tokens at) (λ name. among name before) (nat_lt (length before) feature_limit) at which.Features (λ name.
       choose (is (at + 1) sign.Comma) (Ask (MoreFeatures (before ++ name ∷ []) (at + 2)) k) (need (is (at + 1) sign.Semicolon) (at + 1) (k (before ++ name ∷ []) (at + 2))))
   body (AModel names at) k = choose (is at sign.Model) (AskExpression names 0 (at + 1) (up_to_semicolon k)) (k e.True at)
   body (AWhen names n at) k = choose (is at sign.When) (AskExpression names n (at + 1) k) (k e.True at)

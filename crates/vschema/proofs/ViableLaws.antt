@@ -18,10 +18,10 @@ use Rattle.feature_expr.specs.declared.token.Token.{Token}
 use Rattle.feature_expr.specs.declared.token.TokenKind.{TokenKind}
 use Rattle.feature_expr.specs.declared.token.TokenKind.TheVariants as token_kind
 use Rattle.vschema.specs.Limits.{deepest_nesting}
-use Rattle.vschema.specs.Words.{stands, name_of, name_of_kind, name_at}
+use Rattle.vschema.specs.Words.{stands, name_of, name_of_kind, spelled_name_at}
 use Rattle.vschema.specs.Spelling.{IsExpression}
 use Rattle.vschema.specs.Faults.{fault_of}
-use Rattle.vschema.specs.CatalogueGrammar.{Form, fitting, outer, Expression, Goes, IsViable, IsFirstFault, IsViableFault, FEATURES, Names, ModelLine, Entries}
+use Rattle.vschema.specs.CatalogueGrammar.{Form, fitting, outer, Expression, Goes, IsViable, IsFirstFileFault, IsViableFault, FEATURES, Names, ModelLine, Entries}
 use Rattle.vschema.specs.declared.words.Sign.{Sign}
 use Rattle.vschema.specs.declared.words.Sign.TheVariants as sign
 
@@ -151,11 +151,11 @@ module _ (text : List ℕ) (tokens : List Token) where
   pub apart : (s s' : Sign) (at : ℕ) → (class_of_sign s ≡ class_of_sign s' → ⊥) → stands text tokens at s ≡ true → stands text tokens at s' ≡ true → ⊥
   apart s s' at other e f = other (sym (sign_class s at e) ∙ sign_class s' at f)
 
-  name_at_class : (at : ℕ) (name : List ℕ) → name_at text tokens at ≡ Some name → class_at at ≡ 1
-  unfolding name_at
+  name_at_class : (at : ℕ) (name : List ℕ) → spelled_name_at text tokens at ≡ Some name → class_at at ≡ 1
+  unfolding spelled_name_at
   name_at_class at name e = name_class text name (slice_get tokens at) e
 
-  pub named_class : (at : ℕ) (found : Option (List ℕ)) → name_at text tokens at ≡ found → is_some found ≡ true → class_at at ≡ 1
+  pub named_class : (at : ℕ) (found : Option (List ℕ)) → spelled_name_at text tokens at ≡ found → is_some found ≡ true → class_at at ≡ 1
   named_class at (Some name) is e = name_at_class at name is
   named_class at None is e = absurd (cc e)
 
@@ -185,7 +185,7 @@ module _ (text : List ℕ) (tokens : List Token) where
   pub never : (k : ℕ) (symbols : Form) (at : ℕ) → (fitting text tokens k at ≡ true → ⊥) → (to : ℕ) → at < to → Goes text tokens (Terminal (Foreign k) ∷ symbols) at to → ⊥
   never k symbols at other to later m = other (close_sign grammar token_fits (Foreign k) symbols at to later m).0
 
-  pub stops : (k : ℕ) (symbols : Form) (at : ℕ) → fitting text tokens k at ≡ false → Stands (Terminal (Foreign k) ∷ symbols) at → IsFirstFault text tokens at
+  pub stops : (k : ℕ) (symbols : Form) (at : ℕ) → fitting text tokens k at ≡ false → Stands (Terminal (Foreign k) ∷ symbols) at → IsFirstFileFault text tokens at
   stops k symbols at other s = record {
     before = reached (Terminal (Foreign k) ∷ symbols) at s;
     never = λ to later v. never k symbols at (λ e. cc (e, other)) to later (s.on to later v);
@@ -218,7 +218,7 @@ module _ (text : List ℕ) (tokens : List Token) where
     back = λ to m. s.back to (open_part grammar token_fits (Outer p 0) symbols at to (rw is (in_any symbols at to before form after m)));
   }
 
-  pub no_form : (p : ℕ) (all : List Form) (symbols : Form) (at : ℕ) → outer p 0 ≡ all → NoneGoes symbols at all → Stands (Nonterminal (Outer p 0) ∷ symbols) at → IsFirstFault text tokens at
+  pub no_form : (p : ℕ) (all : List Form) (symbols : Form) (at : ℕ) → outer p 0 ≡ all → NoneGoes symbols at all → Stands (Nonterminal (Outer p 0) ∷ symbols) at → IsFirstFileFault text tokens at
   no_form p all symbols at is none s = record {
     before = reached (Nonterminal (Outer p 0) ∷ symbols) at s;
     never = λ to later v. none_of symbols at to all later none (rw is at (close_part grammar token_fits (Outer p 0) symbols at to later (s.on to later v)));
@@ -291,7 +291,7 @@ module _ (text : List ℕ) (tokens : List Token) where
         back = λ to m. s.back to (l.back symbols to m);
       }
 
-  fault_in : (nesting at place : ℕ) (symbols : Form) → IsFree grammar token_fits (signs_of (Disjunction nesting)) symbols → FaultAt grammar token_fits (signs_of (Disjunction nesting)) (Disjunction nesting) at place → Stands (Expression nesting ∷ symbols) at → IsFirstFault text tokens place
+  fault_in : (nesting at place : ℕ) (symbols : Form) → IsFree grammar token_fits (signs_of (Disjunction nesting)) symbols → FaultAt grammar token_fits (signs_of (Disjunction nesting)) (Disjunction nesting) at place → Stands (Expression nesting ∷ symbols) at → IsFirstFileFault text tokens place
   fault_in nesting at place symbols free f s = record {
     before = s.back place (f.reaches.viable symbols);
     never = λ to later v. f.never symbols to free later (s.on to (omega (arith, f.reaches.order, later)) v);

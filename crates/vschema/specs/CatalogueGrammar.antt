@@ -4,7 +4,7 @@ use Rattle.feature_expr.specs.Grammar.{Symbol, Terminal, Nonterminal, Matches}
 use Rattle.feature_expr.specs.ExprGrammar.{Part, Mark, Outer, Foreign, Disjunction, forms, fits}
 use Rattle.feature_expr.specs.declared.token.Token.{Token}
 use Rattle.vschema.specs.Limits.{deepest_nesting}
-use Rattle.vschema.specs.Words.{stands, name_at, kind_at, value_at}
+use Rattle.vschema.specs.Words.{stands, spelled_name_at, kind_at, value_at}
 use Rattle.vschema.specs.declared.fault.CatalogFault.{CatalogFault}
 use Rattle.vschema.specs.declared.fault.CatalogFault.TheVariants as fault
 use Rattle.vschema.specs.declared.words.Sign.TheVariants as sign
@@ -22,7 +22,7 @@ fitting text tokens number at =
     (if number == 6 then stands text tokens at sign.Close else
     (if number == 7 then stands text tokens at sign.Comma else
     (if number == 8 then stands text tokens at sign.Semicolon else
-    (if number == 9 then is_some (name_at text tokens at) else
+    (if number == 9 then is_some (spelled_name_at text tokens at) else
     (if number == 10 then is_some (kind_at text tokens at) else
     (if number == 11 then is_some (value_at text tokens at) else
     (if number == 12 then at == length tokens else false))))))))))))
@@ -127,14 +127,14 @@ abbrev pub IsViable : List ℕ → List Token → ℕ → Type 0
 IsViable text tokens to = Goes text tokens (FEATURES ∷ Names ∷ ModelLine ∷ Entries ∷ []) 0 to
 
 -- the tokens before this one begin a catalogue, and with it they don't
-pub record IsFirstFault (text : List ℕ) (tokens : List Token) (at : ℕ) : Type 0 where
+pub record IsFirstFileFault (text : List ℕ) (tokens : List Token) (at : ℕ) : Type 0 where
   pub before : IsViable text tokens at
   pub never : (to : ℕ) → at < to → IsViable text tokens to → ⊥
 
 -- a syntax fault stands at the first token with which the file is no catalogue's beginning, and each other fault at a
 -- token that could stand there
 abbrev pub IsViableFault : List ℕ → List Token → CatalogFault → Type 0
-IsViableFault text tokens (fault.Syntax at) = IsFirstFault text tokens at
+IsViableFault text tokens (fault.Syntax at) = IsFirstFileFault text tokens at
 IsViableFault text tokens (fault.Duplicate at) = IsViable text tokens (at + 1)
 IsViableFault text tokens (fault.UnknownFeature at) = IsViable text tokens (at + 1)
 IsViableFault text tokens (fault.UnknownName at) = IsViable text tokens (at + 1)

@@ -12,7 +12,7 @@ use Rattle.feature_expr.specs.declared.token.Token.{Token}
 use Rattle.feature_expr.specs.declared.value.Kind.{Kind}
 use Rattle.feature_expr.specs.declared.value.Value.{Value}
 use Rattle.vschema.specs.Limits.{most_tables, most_columns, deepest_nesting}
-use Rattle.vschema.specs.Words.{stands, name_at, folded_at, kind_at, value_at}
+use Rattle.vschema.specs.Words.{stands, spelled_name_at, folded_at, kind_at, value_at}
 use Rattle.vschema.specs.Spelling.{column_place, table_place, NewFeature, FeaturesBefore, IsHead, IsExpression, IsModel, IsWhen, NewColumn, IsColumn, ColumnsBefore, AreColumns, NewTable, has_value, NewCell, IsCell, CellsBefore, AreCells, IsTableName, EntriesTo}
 use Rattle.vschema.specs.declared.catalog.Column.{Column}
 use Rattle.vschema.specs.declared.catalog.OpeningRow.{OpeningRow}
@@ -44,9 +44,9 @@ pub record ExpressionFault (names : List (List ℕ)) (text : List ℕ) (tokens :
 -- at the name of a feature
 pub data FeatureFault (text : List ℕ) (tokens : List Token) (names : List (List ℕ)) (at : ℕ) : CatalogFault → Type 0 where
   feature_memory : FeatureFault text tokens names at fault.Memory
-  no_feature_name : name_at text tokens at ≡ None → FeatureFault text tokens names at (fault.Syntax at)
-  feature_again : (name : List ℕ) → name_at text tokens at ≡ Some name → among name names ≡ true → FeatureFault text tokens names at (fault.Duplicate at)
-  one_feature_more : (name : List ℕ) → name_at text tokens at ≡ Some name → among name names ≡ false → feature_limit ≤ length names → FeatureFault text tokens names at (fault.Limit at which.Features)
+  no_feature_name : spelled_name_at text tokens at ≡ None → FeatureFault text tokens names at (fault.Syntax at)
+  feature_again : (name : List ℕ) → spelled_name_at text tokens at ≡ Some name → among name names ≡ true → FeatureFault text tokens names at (fault.Duplicate at)
+  one_feature_more : (name : List ℕ) → spelled_name_at text tokens at ≡ Some name → among name names ≡ false → feature_limit ≤ length names → FeatureFault text tokens names at (fault.Limit at which.Features)
 
 -- in the list of features
 pub data HeadFault (text : List ℕ) (tokens : List Token) : CatalogFault → Type 0 where
@@ -152,8 +152,8 @@ pub record EntriesFault (names : List (List ℕ)) (text : List ℕ) (tokens : Li
   pub here : EntryFault names text tokens tables at why
 
 -- in a catalogue's file
-pub data CatalogueFault (text : List ℕ) (tokens : List Token) : CatalogFault → Type 0 where
-  catalogue_memory : CatalogueFault text tokens fault.Memory
-  in_head : (why : CatalogFault) → HeadFault text tokens why → CatalogueFault text tokens why
-  at_model : (names : List (List ℕ)) (body : ℕ) (why : CatalogFault) → IsHead text tokens names body → ModelFault names text tokens body why → CatalogueFault text tokens why
-  in_entries : (names : List (List ℕ)) (body : ℕ) (model : Expr) (entries : ℕ) (why : CatalogFault) → IsHead text tokens names body → IsModel names text tokens body model entries → EntriesFault names text tokens entries why → CatalogueFault text tokens why
+pub data FileFault (text : List ℕ) (tokens : List Token) : CatalogFault → Type 0 where
+  catalogue_memory : FileFault text tokens fault.Memory
+  in_head : (why : CatalogFault) → HeadFault text tokens why → FileFault text tokens why
+  at_model : (names : List (List ℕ)) (body : ℕ) (why : CatalogFault) → IsHead text tokens names body → ModelFault names text tokens body why → FileFault text tokens why
+  in_entries : (names : List (List ℕ)) (body : ℕ) (model : Expr) (entries : ℕ) (why : CatalogFault) → IsHead text tokens names body → IsModel names text tokens body model entries → EntriesFault names text tokens entries why → FileFault text tokens why

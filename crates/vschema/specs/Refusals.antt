@@ -6,7 +6,7 @@ use Rattle.feature_expr.specs.Tokens.{AreTokens}
 use Rattle.feature_expr.specs.declared.token.Token.{Token}
 use Rattle.vschema.specs.Words.{line_number}
 use Rattle.vschema.specs.CatalogueGrammar.{IsViableFault}
-use Rattle.vschema.specs.Faults.{CatalogueFault}
+use Rattle.vschema.specs.Faults.{FileFault}
 use Rattle.vschema.specs.declared.catalog.Catalog.{Catalog}
 use Rattle.vschema.specs.declared.catalog.OpeningRow.{OpeningRow}
 use Rattle.vschema.specs.declared.fault.CatalogFault.{CatalogFault}
@@ -31,7 +31,7 @@ pub record IsRefused (why : CatalogRefused) (bytes : List ℕ) : Type 0 where
   pub tokens : List Token
   pub are_tokens : AreTokens bytes tokens
   pub fault : CatalogFault
-  pub is_fault : CatalogueFault bytes tokens fault
+  pub is_fault : FileFault bytes tokens fault
   pub viable : IsViableFault bytes tokens fault
   pub placed : why ≡ refused_at bytes tokens fault
 
@@ -43,11 +43,11 @@ Refuses refused.Memory bytes = Unit {0}
 Refuses why bytes = IsRefused why bytes
 
 -- the answer is this catalogue with these opening rows, or memory ran out
-abbrev pub Gives : Catalog → List OpeningRow → Result (Catalog × List OpeningRow) CatalogRefused → Type 0
-Gives catalog rows (Ok found) = (found.0 ≡ catalog) × (found.1 ≡ rows)
-Gives catalog rows (Err why) = why ≡ refused.Memory
+abbrev pub GivesCatalogue : Catalog → List OpeningRow → Result (Catalog × List OpeningRow) CatalogRefused → Type 0
+GivesCatalogue catalog rows (Ok found) = (found.0 ≡ catalog) × (found.1 ≡ rows)
+GivesCatalogue catalog rows (Err why) = why ≡ refused.Memory
 
 -- the answer is this refusal, or memory ran out
-abbrev pub GivesFault : CatalogRefused → Result (Catalog × List OpeningRow) CatalogRefused → Type 0
-GivesFault why (Ok found) = ⊥
-GivesFault why (Err found) = found ≢ refused.Memory → found ≡ why
+abbrev pub GivesFileFault : CatalogRefused → Result (Catalog × List OpeningRow) CatalogRefused → Type 0
+GivesFileFault why (Ok found) = ⊥
+GivesFileFault why (Err found) = found ≢ refused.Memory → found ≡ why

@@ -11,7 +11,7 @@ use Rattle.feature_expr.specs.declared.expr.Expr as e
 use Rattle.feature_expr.specs.declared.token.Token.{Token}
 use Rattle.feature_expr.specs.declared.value.Value.{Value}
 use Rattle.vschema.specs.Limits.{most_tables, most_columns, deepest_nesting}
-use Rattle.vschema.specs.Words.{stands, name_at, folded_at, kind_at, value_at, line_number}
+use Rattle.vschema.specs.Words.{stands, spelled_name_at, folded_at, kind_at, value_at, line_number}
 use Rattle.vschema.specs.declared.catalog.Catalog.{Catalog}
 use Rattle.vschema.specs.declared.catalog.Column.{Column}
 use Rattle.vschema.specs.declared.catalog.OpeningRow.{OpeningRow}
@@ -29,7 +29,7 @@ table_place name tables = position (λ (table : Table). bytes_eq table.name name
 
 -- the name of another feature, within the limit
 pub record NewFeature (text : List ℕ) (tokens : List Token) (names : List (List ℕ)) (at : ℕ) (name : List ℕ) : Type 0 where
-  pub named : name_at text tokens at ≡ Some name
+  pub named : spelled_name_at text tokens at ≡ Some name
   pub fresh : among name names ≡ false
   pub within : length names < feature_limit
 

@@ -34,8 +34,8 @@ name_of text (Some token) = name_of_kind token.kind (bytes_of text token)
 name_of text None = None
 
 -- the name that the token at a place is, as it is written
-unfoldable pub name_at : List ℕ → List Token → ℕ → Option (List ℕ)
-name_at text tokens at = name_of text (slice_get tokens at)
+unfoldable pub spelled_name_at : List ℕ → List Token → ℕ → Option (List ℕ)
+spelled_name_at text tokens at = name_of text (slice_get tokens at)
 
 abbrev pub lower : Option (List ℕ) → Option (List ℕ)
 lower (Some name) = Some (map to_ascii_lowercase name)
@@ -43,7 +43,7 @@ lower None = None
 
 -- the name of a table or a column that it is, whose case doesn't count
 unfoldable pub folded_at : List ℕ → List Token → ℕ → Option (List ℕ)
-folded_at text tokens at = lower (name_at text tokens at)
+folded_at text tokens at = lower (spelled_name_at text tokens at)
 
 -- the kind that it is
 unfoldable pub kind_at : List ℕ → List Token → ℕ → Option Kind

@@ -3,9 +3,9 @@ ghost use Rattle.feature_expr.specs.Tokens.{AreTokens};
 ghost use Rattle.vschema.specs.Words.{line_number};
 ghost use Rattle.vschema.specs.Spelling.{SpellCatalogue};
 ghost use Rattle.vschema.specs.Files.{IsCatalogue};
-ghost use Rattle.vschema.specs.Faults.{CatalogueFault};
+ghost use Rattle.vschema.specs.Faults.{FileFault};
 ghost use Rattle.vschema.specs.Formed.{IsFormed};
-ghost use Rattle.vschema.specs.Refusals.{Refuses, Gives, GivesFault, refused_at};
+ghost use Rattle.vschema.specs.Refusals.{Refuses, GivesCatalogue, GivesFileFault, refused_at};
 ghost use Rattle.vschema.specs.declared.catalog.Catalog.{Catalog as Spelled};
 ghost use Rattle.vschema.specs.declared.catalog.OpeningRow.{OpeningRow as Row};
 ghost use Rattle.vschema.specs.declared.refused.CatalogRefused.{CatalogRefused as Why};
@@ -34,8 +34,8 @@ pub fn parse_catalog(
     ensures spelled { IfOk result (λ found. IsCatalogue bytes.now found.0 found.1) }
     ensures formed { IfOk result (λ found. IsFormed found.0 found.1) }
     ensures refused { IfErr result (λ why. Refuses why bytes.now) }
-    ensures read { (catalog : Spelled) (rows : ListOf Row) → IsCatalogue bytes.now catalog rows → Gives catalog rows result }
-    ensures refused_for { (why : Why) → Refuses why bytes.now → why ≢ refused.Memory → GivesFault why result }
+    ensures read { (catalog : Spelled) (rows : ListOf Row) → IsCatalogue bytes.now catalog rows → GivesCatalogue catalog rows result }
+    ensures refused_for { (why : Why) → Refuses why bytes.now → why ≢ refused.Memory → GivesFileFault why result }
 {
     match str::from_utf8(bytes) {
         Ok(text) => parse_text(alloc, text),
@@ -48,8 +48,8 @@ fn parse_text(alloc: Global, text: &str) -> Result<(Catalog, List<OpeningRow>), 
     ensures spelled { IfOk result (λ found. IsCatalogue text.now found.0 found.1) }
     ensures formed { IfOk result (λ found. IsFormed found.0 found.1) }
     ensures refused { IfErr result (λ why. Refuses why text.now) }
-    ensures read { (catalog : Spelled) (rows : ListOf Row) → IsCatalogue text.now catalog rows → Gives catalog rows result }
-    ensures refused_for { (why : Why) → Refuses why text.now → why ≢ refused.Memory → GivesFault why result }
+    ensures read { (catalog : Spelled) (rows : ListOf Row) → IsCatalogue text.now catalog rows → GivesCatalogue catalog rows result }
+    ensures refused_for { (why : Why) → Refuses why text.now → why ≢ refused.Memory → GivesFileFault why result }
 {
     let tokens = tokens(alloc, text)?;
     match parse_tokens(alloc, text.as_bytes(), tokens.as_slice()) {
@@ -66,7 +66,7 @@ fn parse_tokens(
     tokens: &[Token],
 ) -> Result<(Catalog, List<OpeningRow>), CatalogFault>
     ensures spelled { IfOk result (λ found. SpellCatalogue text.now tokens.now found.0 found.1) }
-    ensures refused { IfErr result (CatalogueFault text.now tokens.now) }
+    ensures refused { IfErr result (FileFault text.now tokens.now) }
 {
     let no_features = no_features(alloc);
     let head = Reading {

@@ -2,7 +2,7 @@ ghost use Rattle.std.specs.Prelude.{◌≡◌, ◌<◌, ◌≤◌, ◌+◌, true
 ghost use Rattle.std.specs.Option.{option_copied};
 ghost use Rattle.feature_expr.specs.Names.{is_name_of};
 ghost use Rattle.vschema.specs.Faults.{IsSyntaxAt};
-ghost use Rattle.vschema.specs.Words.{stands, name_of, name_at, folded_at, kind_at, value_of, value_at, truth_of};
+ghost use Rattle.vschema.specs.Words.{stands, name_of, spelled_name_at, folded_at, kind_at, value_of, value_at, truth_of};
 ghost use Rattle.vschema.specs.declared.fault.CatalogFault.TheVariants as fault;
 
 use crate::fault::CatalogFault;
@@ -58,11 +58,11 @@ pub fn wanted(reading: &Reading<'_>, at: usize, sign: Sign) -> Result<usize, Cat
 }
 
 /// The bytes of a name that stands at a token.
-#[tactic(auto, unfolding(crate::specs::Words::name_at))]
+#[tactic(auto, unfolding(crate::specs::Words::spelled_name_at))]
 pub fn name_at<'a>(reading: &Reading<'a>, at: usize) -> Option<&'a [u8]>
-    ensures some { IfSome result (λ word. name_at reading.now.text.now reading.now.tokens.now at ≡ Some word.now) }
+    ensures some { IfSome result (λ word. spelled_name_at reading.now.text.now reading.now.tokens.now at ≡ Some word.now) }
     ensures within { IfSome result (λ word. at < length reading.now.tokens.now) }
-    ensures none { IfNone result (name_at reading.now.text.now reading.now.tokens.now at ≡ None) }
+    ensures none { IfNone result (spelled_name_at reading.now.text.now reading.now.tokens.now at ≡ None) }
 {
     let tokens = reading.tokens;
     let text = reading.text;

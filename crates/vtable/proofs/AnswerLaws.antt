@@ -16,7 +16,7 @@ use Rattle.vtable.specs.declared.table.VRow.{VRow}
 use Rattle.vtable.specs.declared.table.VTable.{VTable}
 use Rattle.vtable.specs.Answers.{column_at, fits, same_kind, names_are_distinct, is_whole, IsAnswerAt}
 use Rattle.condition_sat.specs.Possible.{can_hold, can_meet, is_settled}
-use Rattle.vtable.specs.TableForm.{same_cells, stands, has_cell, cells_stand, is_row_formed, columns_staying, cut_cells, cut_row}
+use Rattle.vtable.specs.TableForm.{same_cells, has_row_with, has_cell, cells_stand, is_row_formed, columns_staying, cut_cells, cut_row}
 use Rattle.vtable.proofs.CellLaws.{same_cells_are, same_cells_self}
 use Rattle.vtable.proofs.CutLaws.{one_stays, one_goes, cut_stays, cut_goes, settled_at, column_away, both_hold, same_columns, fits_rest}
 use Rattle.condition_sat.proofs.PossibleLaws.{true_or_false, both, and_first, and_second, or_left, or_right, or_cases}
@@ -57,10 +57,10 @@ module _ (model cond : Expr) (c : List ℕ) (admitted : IsAdmitted model c) (row
       ]
 
 -- whatever stands among the cut rows fits
-cut_rows_fit : (model : Expr) (c : List ℕ) → IsAdmitted model c → (columns : List VColumn) (rows : List VRow) → list_all (is_filled c columns) rows ≡ true → (cells : List (Option Value)) → stands c cells (map (cut_row model columns) rows) ≡ true → fits (map (column_at c) (columns_staying model columns)) cells ≡ true
+cut_rows_fit : (model : Expr) (c : List ℕ) → IsAdmitted model c → (columns : List VColumn) (rows : List VRow) → list_all (is_filled c columns) rows ≡ true → (cells : List (Option Value)) → has_row_with c cells (map (cut_row model columns) rows) ≡ true → fits (map (column_at c) (columns_staying model columns)) cells ≡ true
 cut_rows_fit model c admitted columns [] filled cells standing = search rules
 cut_rows_fit model c admitted columns (row ∷ rows) filled cells standing =
-    elim (or_cases (satisfies c row.cond && same_cells (cut_cells model row.cond columns row.cells) cells) (stands c cells (map (cut_row model columns) rows)) standing) [
+    elim (or_cases (satisfies c row.cond && same_cells (cut_cells model row.cond columns row.cells) cells) (has_row_with c cells (map (cut_row model columns) rows)) standing) [
       | inl one ↦
           let is = and_first (satisfies c row.cond) (same_cells (cut_cells model row.cond columns row.cells) cells) one in
           subst (λ xs. fits (map (column_at c) (columns_staying model columns)) xs ≡ true) (same_cells_are (cut_cells model row.cond columns row.cells) cells (and_second (satisfies c row.cond) (same_cells (cut_cells model row.cond columns row.cells) cells) one))
@@ -69,14 +69,14 @@ cut_rows_fit model c admitted columns (row ∷ rows) filled cells standing =
     ]
 
 -- rows of which all that stands fits
-all_fit : (c : List ℕ) (places : List (Option plain.Column)) (rows : List VRow) → ((cells : List (Option Value)) → stands c cells rows ≡ true → fits places cells ≡ true) → list_all (fits places) (map (λ (row : VRow). row.cells) (filter (λ (row : VRow). satisfies c row.cond) rows)) ≡ true
+all_fit : (c : List ℕ) (places : List (Option plain.Column)) (rows : List VRow) → ((cells : List (Option Value)) → has_row_with c cells rows ≡ true → fits places cells ≡ true) → list_all (fits places) (map (λ (row : VRow). row.cells) (filter (λ (row : VRow). satisfies c row.cond) rows)) ≡ true
 all_fit c places [] fit = refl
 all_fit c places (row ∷ rows) fit =
-    let rest = all_fit c places rows (λ cells standing. fit cells (or_right (satisfies c row.cond && same_cells row.cells cells) (stands c cells rows) standing)) in
+    let rest = all_fit c places rows (λ cells standing. fit cells (or_right (satisfies c row.cond && same_cells row.cells cells) (has_row_with c cells rows) standing)) in
     elim (true_or_false (satisfies c row.cond)) [
       | inl is ↦
           ap (λ rs. list_all (fits places) (map (λ (r : VRow). r.cells) rs)) (choice_true _ _ _ is)
-          ∙ both (fits places row.cells) _ (fit row.cells (or_left (satisfies c row.cond && same_cells row.cells row.cells) (stands c row.cells rows) (both (satisfies c row.cond) (same_cells row.cells row.cells) is (same_cells_self row.cells)))) rest
+          ∙ both (fits places row.cells) _ (fit row.cells (or_left (satisfies c row.cond && same_cells row.cells row.cells) (has_row_with c row.cells rows) (both (satisfies c row.cond) (same_cells row.cells row.cells) is (same_cells_self row.cells)))) rest
       | inr is_not ↦ ap (λ rs. list_all (fits places) (map (λ (r : VRow). r.cells) rs)) (choice_false _ _ _ is_not) ∙ rest
     ]
 
@@ -97,11 +97,11 @@ formed_long model table (row ∷ rows) h =
     let standing = and_second (is_settled model row.cond) (cells_stand model row.cond table.columns row.cells) (and_first (is_settled model row.cond && cells_stand model row.cond table.columns row.cells) (has_cell row.cells) formed) in
     both (is_whole table row) (list_all (is_whole table) rows) (stand_long model row.cond table.columns row.cells standing) (formed_long model table rows (and_second (is_row_formed model table.columns row) (list_all (is_row_formed model table.columns) rows) h))
 
-pub answer_after : (model : Expr) (before after : VTable) (c : List ℕ) → IsAdmitted model c → after.columns ≡ columns_staying model before.columns → list_all (is_filled c before.columns) before.rows ≡ true → ((cells : List (Option Value)) → stands c cells after.rows ≡ (has_cell cells && stands c cells (map (cut_row model before.columns) before.rows))) → list_all (is_row_formed model after.columns) after.rows ≡ true → names_are_distinct (columns_of (map (column_at c) before.columns)) ≡ true → IsAnswerAt c after
+pub answer_after : (model : Expr) (before after : VTable) (c : List ℕ) → IsAdmitted model c → after.columns ≡ columns_staying model before.columns → list_all (is_filled c before.columns) before.rows ≡ true → ((cells : List (Option Value)) → has_row_with c cells after.rows ≡ (has_cell cells && has_row_with c cells (map (cut_row model before.columns) before.rows))) → list_all (is_row_formed model after.columns) after.rows ≡ true → names_are_distinct (columns_of (map (column_at c) before.columns)) ≡ true → IsAnswerAt c after
 answer_after model before after c admitted columns filled rows formed distinct = record {
   distinct = ap (λ ks. names_are_distinct (columns_of (map (column_at c) ks))) columns ∙ ap names_are_distinct (same_columns model c admitted before.columns) ∙ distinct;
   whole = formed_long model after after.rows formed;
   filled = ap (λ ks. list_all (fits (map (column_at c) ks)) (map (λ (row : VRow). row.cells) (filter (λ (row : VRow). satisfies c row.cond) after.rows))) columns
       ∙ all_fit c (map (column_at c) (columns_staying model before.columns)) after.rows
-      (λ cells standing. cut_rows_fit model c admitted before.columns before.rows filled cells (and_second (has_cell cells) (stands c cells (map (cut_row model before.columns) before.rows)) (sym (rows cells) ∙ standing)));
+      (λ cells standing. cut_rows_fit model c admitted before.columns before.rows filled cells (and_second (has_cell cells) (has_row_with c cells (map (cut_row model before.columns) before.rows)) (sym (rows cells) ∙ standing)));
 }

@@ -19,7 +19,7 @@ use Rattle.vtable.specs.declared.table.VColumn.{VColumn}
 use Rattle.vtable.specs.declared.table.VRow.{VRow}
 use Rattle.vtable.specs.Disjunction.{any_holds, conds_cost}
 use Rattle.condition_sat.specs.Possible.{can_meet, is_settled}
-use Rattle.vtable.specs.TableForm.{same_cells, cells_cmp, stands, rows_ascend, is_row_formed, cells_stand, has_cell}
+use Rattle.vtable.specs.TableForm.{same_cells, cells_cmp, has_row_with, rows_ascend, is_row_formed, cells_stand, has_cell}
 use Rattle.vtable.specs.Passes.{is_in_order, groups_after, group_of, with_cond, group_rows, IsJoined, AllJoined}
 use Rattle.vtable.proofs.CellLaws.{same_cells_are, cells_ascend}
 use Rattle.condition_sat.proofs.PossibleLaws.{true_or_false, both, and_first, and_second, or_left, some_admitted_of, admitted_of, none_admitted, each_fails}
@@ -103,12 +103,12 @@ pub rows_do_ascend : (model : Expr) (rows joined : List VRow) → is_in_order ro
 rows_do_ascend model rows joined order all = joined_ascend model _ joined all (all_in_order rows order)
 
 -- they stand where the groups do
-pub joined_stand : (model : Expr) (c : List ℕ) (cells : List (Option Value)) → IsAdmitted model c → (groups : List Group) (rows : List VRow) → AllJoined model groups rows → stands c cells rows ≡ list_any (group_stands c cells) groups
+pub joined_stand : (model : Expr) (c : List ℕ) (cells : List (Option Value)) → IsAdmitted model c → (groups : List Group) (rows : List VRow) → AllJoined model groups rows → has_row_with c cells rows ≡ list_any (group_stands c cells) groups
 joined_stand model c cells admitted [] [] all = refl
 joined_stand model c cells admitted [] (row ∷ rows) all = absurd all
 joined_stand model c cells admitted (group ∷ groups) [] all = absurd all
 joined_stand model c cells admitted (group ∷ groups) (row ∷ rows) all =
-    ap₂ (λ (b : Bool) (xs : List (Option Value)). (b && same_cells xs cells) || stands c cells rows) (all.0.holds c admitted) all.0.cells
+    ap₂ (λ (b : Bool) (xs : List (Option Value)). (b && same_cells xs cells) || has_row_with c cells rows) (all.0.holds c admitted) all.0.cells
     ∙ ap (λ b. group_stands c cells group || b) (joined_stand model c cells admitted groups rows all.1)
 
 pub joined_cost : (model : Expr) (groups : List Group) (rows : List VRow) → AllJoined model groups rows → rows_cost rows ≤ groups_cost groups

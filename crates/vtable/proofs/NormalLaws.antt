@@ -17,7 +17,7 @@ use Rattle.vtable.specs.declared.table.VColumn.{VColumn}
 use Rattle.vtable.specs.declared.table.VRow.{VRow}
 use Rattle.vtable.specs.declared.table.VTable.{VTable}
 use Rattle.vtable.specs.Answers.{column_at, fits, answer_at, IsAnswerAt}
-use Rattle.vtable.specs.TableForm.{same_cells, stands, has_cell, is_row_formed, column_staying, columns_staying, columns_are_distinct, cut_cells, cut_row, rows_mention, rows_weight, IsNormalOf}
+use Rattle.vtable.specs.TableForm.{same_cells, has_row_with, has_cell, is_row_formed, column_staying, columns_staying, columns_are_distinct, cut_cells, cut_row, rows_mention, rows_weight, IsNormalOf}
 use Rattle.condition_sat.specs.Possible.{is_settled}
 use Rattle.vtable.specs.Passes.{row_staying, staying, table_row, groups_after, is_in_order, AllJoined}
 use Rattle.vtable.proofs.AnswerLaws.{answer_after}
@@ -43,7 +43,7 @@ away_more c row rows is = ap (map (λ (r : VRow). r.cells)) (choice_false _ _ _ 
 -- a list of cells that stands among the rows, and is a row with these values
 pub record Standing (c : List ℕ) (row_in : List (Option Value) → List Cell) (rows : List VRow) (values : ColName → Option Value) : Type 0 where
   pub cells : List (Option Value)
-  pub standing : stands c cells rows ≡ true
+  pub standing : has_row_with c cells rows ≡ true
   pub alike : (name : ColName) → cell_of (row_in cells) name ≡ values name
 
 has_later : (c : List ℕ) (old : List (Option Value) → List Cell) (values : ColName → Option Value) (row : VRow) (rows : List VRow) → HasRow (map old (here c rows)) values → (satisfies c row.cond ≡ true) ⊎ (satisfies c row.cond ≡ false) → HasRow (map old (here c (row ∷ rows))) values
@@ -51,10 +51,10 @@ has_later c old values row rows has (inl is) = subst (λ xs. HasRow (map old xs)
 has_later c old values row rows has (inr is_not) = subst (λ xs. HasRow (map old xs) values) (sym (away_more c row rows is_not)) has
 
 -- rows, each read in its own way, and cells that stand among them read in one way
-has_row : (c : List ℕ) (row_in : List (Option Value) → List Cell) (read : VRow → List (Option Value)) (old : List (Option Value) → List Cell) (values : ColName → Option Value) → ((row : VRow) → satisfies c row.cond ≡ true → row_in (read row) ≡ old row.cells) → (rows : List VRow) (cells : List (Option Value)) → stands c cells (map (λ (row : VRow). record { cells = read row; cond = row.cond }) rows) ≡ true → ((name : ColName) → cell_of (row_in cells) name ≡ values name) → HasRow (map old (here c rows)) values
+has_row : (c : List ℕ) (row_in : List (Option Value) → List Cell) (read : VRow → List (Option Value)) (old : List (Option Value) → List Cell) (values : ColName → Option Value) → ((row : VRow) → satisfies c row.cond ≡ true → row_in (read row) ≡ old row.cells) → (rows : List VRow) (cells : List (Option Value)) → has_row_with c cells (map (λ (row : VRow). record { cells = read row; cond = row.cond }) rows) ≡ true → ((name : ColName) → cell_of (row_in cells) name ≡ values name) → HasRow (map old (here c rows)) values
 has_row c row_in read old values same [] cells standing alike = search rules
 has_row c row_in read old values same (row ∷ rows) cells standing alike =
-    elim (or_cases (satisfies c row.cond && same_cells (read row) cells) (stands c cells (map (λ (row : VRow). record { cells = read row; cond = row.cond }) rows)) standing) [
+    elim (or_cases (satisfies c row.cond && same_cells (read row) cells) (has_row_with c cells (map (λ (row : VRow). record { cells = read row; cond = row.cond }) rows)) standing) [
       | inl first ↦
           let is = and_first (satisfies c row.cond) (same_cells (read row) cells) first in
           let are = same_cells_are (read row) cells (and_second (satisfies c row.cond) (same_cells (read row) cells) first) in
@@ -64,12 +64,12 @@ has_row c row_in read old values same (row ∷ rows) cells standing alike =
     ]
 
 standing_later : (c : List ℕ) (row_in : List (Option Value) → List Cell) (read : VRow → List (Option Value)) (values : ColName → Option Value) (row : VRow) (rows : List VRow) → Standing c row_in (map (λ (r : VRow). record { cells = read r; cond = r.cond }) rows) values → Standing c row_in (map (λ (r : VRow). record { cells = read r; cond = r.cond }) (row ∷ rows)) values
-standing_later c row_in read values row rows found = record { cells = found.cells; standing = or_right (satisfies c row.cond && same_cells (read row) found.cells) (stands c found.cells (map (λ (r : VRow). record { cells = read r; cond = r.cond }) rows)) found.standing; alike = found.alike }
+standing_later c row_in read values row rows found = record { cells = found.cells; standing = or_right (satisfies c row.cond && same_cells (read row) found.cells) (has_row_with c found.cells (map (λ (r : VRow). record { cells = read r; cond = r.cond }) rows)) found.standing; alike = found.alike }
 
 standing_here : (c : List ℕ) (row_in : List (Option Value) → List Cell) (read : VRow → List (Option Value)) (old : List (Option Value) → List Cell) (values : ColName → Option Value) → ((row : VRow) → satisfies c row.cond ≡ true → row_in (read row) ≡ old row.cells) → (row : VRow) (rows : List VRow) → satisfies c row.cond ≡ true → ((name : ColName) → cell_of (old row.cells) name ≡ values name) ⊎ HasRow (map old (here c rows)) values → (HasRow (map old (here c rows)) values → Standing c row_in (map (λ (r : VRow). record { cells = read r; cond = r.cond }) rows) values) → Standing c row_in (map (λ (r : VRow). record { cells = read r; cond = r.cond }) (row ∷ rows)) values
 standing_here c row_in read old values same row rows is (inl alike) rest = record {
   cells = read row;
-  standing = or_left (satisfies c row.cond && same_cells (read row) (read row)) (stands c (read row) (map (λ (r : VRow). record { cells = read r; cond = r.cond }) rows)) (both (satisfies c row.cond) (same_cells (read row) (read row)) is (same_cells_self (read row)));
+  standing = or_left (satisfies c row.cond && same_cells (read row) (read row)) (has_row_with c (read row) (map (λ (r : VRow). record { cells = read r; cond = r.cond }) rows)) (both (satisfies c row.cond) (same_cells (read row) (read row)) is (same_cells_self (read row)));
   alike = λ name. ap (λ xs. cell_of xs name) (same row is) ∙ alike name;
 }
 standing_here c row_in read old values same row rows is (inr later) rest = standing_later c row_in read values row rows (rest later)
@@ -103,10 +103,10 @@ list_of_filled c columns (row ∷ rows) h =
     ]
 
 -- what stands is one of the rows, and so it is filled
-filled_standing : (model : Expr) (columns : List VColumn) (c : List ℕ) → IsAdmitted model c → (first : plain.Column) (more : List plain.Column) → columns_of (map (column_at c) columns) ≡ first ∷ more → (rows : List VRow) → list_all (is_filled c columns) rows ≡ true → (cells : List (Option Value)) → stands c cells (map (cut_row model columns) rows) ≡ true → has_cell cells ≡ true
+filled_standing : (model : Expr) (columns : List VColumn) (c : List ℕ) → IsAdmitted model c → (first : plain.Column) (more : List plain.Column) → columns_of (map (column_at c) columns) ≡ first ∷ more → (rows : List VRow) → list_all (is_filled c columns) rows ≡ true → (cells : List (Option Value)) → has_row_with c cells (map (cut_row model columns) rows) ≡ true → has_cell cells ≡ true
 filled_standing model columns c admitted first more is [] filled cells standing = search rules
 filled_standing model columns c admitted first more is (row ∷ rows) filled cells standing =
-    elim (or_cases (satisfies c row.cond && same_cells (cut_cells model row.cond columns row.cells) cells) (stands c cells (map (cut_row model columns) rows)) standing) [
+    elim (or_cases (satisfies c row.cond && same_cells (cut_cells model row.cond columns row.cells) cells) (has_row_with c cells (map (cut_row model columns) rows)) standing) [
       | inl one ↦
           let row_here = and_first (satisfies c row.cond) (same_cells (cut_cells model row.cond columns row.cells) cells) one in
           subst (λ xs. has_cell xs ≡ true) (same_cells_are (cut_cells model row.cond columns row.cells) cells (and_second (satisfies c row.cond) (same_cells (cut_cells model row.cond columns row.cells) cells) one))
@@ -119,7 +119,7 @@ itself [] = refl
 itself (row ∷ rows) = ap (λ xs. row ∷ xs) (itself rows)
 
 -- tables whose rows stand alike are the same relation
-same_relation : (model : Expr) (before after : VTable) (c : List ℕ) → IsAdmitted model c → after.columns ≡ columns_staying model before.columns → list_all (is_filled c before.columns) before.rows ≡ true → ((cells : List (Option Value)) → stands c cells after.rows ≡ (has_cell cells && stands c cells (map (cut_row model before.columns) before.rows))) → SameRelation (answer_at c after) (answer_at c before)
+same_relation : (model : Expr) (before after : VTable) (c : List ℕ) → IsAdmitted model c → after.columns ≡ columns_staying model before.columns → list_all (is_filled c before.columns) before.rows ≡ true → ((cells : List (Option Value)) → has_row_with c cells after.rows ≡ (has_cell cells && has_row_with c cells (map (cut_row model before.columns) before.rows))) → SameRelation (answer_at c after) (answer_at c before)
 same_relation model before after c admitted columns filled rows =
     let old : List (Option Value) → List Cell = row_of (map (column_at c) before.columns) in
     let new : List (Option Value) → List Cell = row_of (map (column_at c) (columns_staying model before.columns)) in
@@ -130,12 +130,12 @@ same_relation model before after c admitted columns filled rows =
     = λ first more is values. (
       λ has.
           let found = standing_of c new (λ row. row.cells) new values plain_same after.rows has in
-          let standing : stands c found.cells after.rows ≡ true = ap (stands c found.cells) (sym (itself after.rows)) ∙ found.standing in
-          has_row c new read old values cut_same before.rows found.cells (and_second (has_cell found.cells) (stands c found.cells (map (cut_row model before.columns) before.rows)) (sym (rows found.cells) ∙ standing)) found.alike,
+          let standing : has_row_with c found.cells after.rows ≡ true = ap (has_row_with c found.cells) (sym (itself after.rows)) ∙ found.standing in
+          has_row c new read old values cut_same before.rows found.cells (and_second (has_cell found.cells) (has_row_with c found.cells (map (cut_row model before.columns) before.rows)) (sym (rows found.cells) ∙ standing)) found.alike,
       λ has.
           let found = standing_of c new read old values cut_same before.rows has in
           let celled = filled_standing model before.columns c admitted first more is before.rows filled found.cells found.standing in
-          has_row c new (λ row. row.cells) new values plain_same after.rows found.cells (ap (stands c found.cells) (itself after.rows) ∙ rows found.cells ∙ both _ _ celled found.standing) found.alike,
+          has_row c new (λ row. row.cells) new values plain_same after.rows found.cells (ap (has_row_with c found.cells) (itself after.rows) ∙ rows found.cells ∙ both _ _ celled found.standing) found.alike,
     ) in
     subst (λ ks. SameRelation (relation_with (columns_of (map (column_at c) ks)) (map (row_of (map (column_at c) ks)) (here c after.rows))) (answer_at c before)) (sym columns)
     (subst (λ ks. SameRelation (relation_with ks (map new (here c after.rows))) (answer_at c before)) (sym (same_columns model c admitted before.columns))
@@ -168,7 +168,7 @@ module _ (model : Expr) (before after : VTable) (made : Made model before after)
   columns_are : after.columns ≡ columns_staying model before.columns
   columns_are = made.columns ∙ staying_is model before.columns
 
-  rows_stand : (c : List ℕ) → IsAdmitted model c → (cells : List (Option Value)) → stands c cells after.rows ≡ (has_cell cells && stands c cells (map (cut_row model before.columns) before.rows))
+  rows_stand : (c : List ℕ) → IsAdmitted model c → (cells : List (Option Value)) → has_row_with c cells after.rows ≡ (has_cell cells && has_row_with c cells (map (cut_row model before.columns) before.rows))
   rows_stand c admitted cells =
       let test : VRow → Bool = λ row. satisfies c row.cond && same_cells row.cells cells in
       joined_stand model c cells admitted _ after.rows made.joined

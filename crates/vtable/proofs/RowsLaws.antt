@@ -9,7 +9,7 @@ use Rattle.feature_expr.specs.Satisfaction.{satisfies}
 use Rattle.vtable.specs.declared.group.Group.{Group}
 use Rattle.vtable.specs.declared.table.VRow.{VRow}
 use Rattle.vtable.specs.Disjunction.{any_holds, conds_cost}
-use Rattle.vtable.specs.TableForm.{same_cells, stands, rows_weight}
+use Rattle.vtable.specs.TableForm.{same_cells, has_row_with, rows_weight}
 use Rattle.vtable.specs.Passes.{groups_after, group_of, with_cond}
 use Rattle.vtable.proofs.CellLaws.{same_cells_are}
 use Rattle.vtable.proofs.DisjunctionLaws.{any_push, cost_push}
@@ -55,22 +55,22 @@ first_stands : (c : List ℕ) (cells : List (Option Value)) (row : VRow) → gro
 first_stands c cells row = ap (λ b. b && same_cells row.cells cells) (or-false (satisfies c row.cond))
 
 -- the groups have the cells of their rows
-groups_stand : (c : List ℕ) (cells : List (Option Value)) (group : Group) (rows : List VRow) → list_any (group_stands c cells) (groups_after (Some group) rows) ≡ (group_stands c cells group || stands c cells rows)
+groups_stand : (c : List ℕ) (cells : List (Option Value)) (group : Group) (rows : List VRow) → list_any (group_stands c cells) (groups_after (Some group) rows) ≡ (group_stands c cells group || has_row_with c cells rows)
 groups_stand c cells group [] = refl
 groups_stand c cells group (row ∷ rows) =
     elim (true_or_false (same_cells group.cells row.cells)) [
       | inl same ↦
           ap (list_any (group_stands c cells)) (choice_true _ _ _ same)
           ∙ groups_stand c cells (with_cond group row.cond) rows
-          ∙ longer_stands c cells group row (stands c cells rows) same
+          ∙ longer_stands c cells group row (has_row_with c cells rows) same
       | inr apart ↦
           ap (list_any (group_stands c cells)) (choice_false _ _ _ apart)
-          ∙ ap (λ b. group_stands c cells group || b) (groups_stand c cells (group_of row) rows ∙ ap (λ b. b || stands c cells rows) (first_stands c cells row))
+          ∙ ap (λ b. group_stands c cells group || b) (groups_stand c cells (group_of row) rows ∙ ap (λ b. b || has_row_with c cells rows) (first_stands c cells row))
     ]
 
-pub all_groups_stand : (c : List ℕ) (cells : List (Option Value)) (rows : List VRow) → list_any (group_stands c cells) (groups_after None rows) ≡ stands c cells rows
+pub all_groups_stand : (c : List ℕ) (cells : List (Option Value)) (rows : List VRow) → list_any (group_stands c cells) (groups_after None rows) ≡ has_row_with c cells rows
 all_groups_stand c cells [] = refl
-all_groups_stand c cells (row ∷ rows) = groups_stand c cells (group_of row) rows ∙ ap (λ b. b || stands c cells rows) (first_stands c cells row)
+all_groups_stand c cells (row ∷ rows) = groups_stand c cells (group_of row) rows ∙ ap (λ b. b || has_row_with c cells rows) (first_stands c cells row)
 
 -- what the rows weigh, and one for each
 abbrev pub rows_cost : List VRow → ℕ

@@ -12,7 +12,7 @@ use Rattle.vtable.specs.declared.table.VColumn.{VColumn}
 use Rattle.vtable.specs.declared.table.VRow.{VRow}
 use Rattle.vtable.specs.Answers.{column_at, fits}
 use Rattle.condition_sat.specs.Possible.{can_hold, can_meet, settled}
-use Rattle.vtable.specs.TableForm.{same_cells, stands, has_cell, cells_stand, is_row_formed, column_staying, columns_staying, cut_cells, cut_row}
+use Rattle.vtable.specs.TableForm.{same_cells, has_row_with, has_cell, cells_stand, is_row_formed, column_staying, columns_staying, cut_cells, cut_row}
 use Rattle.vtable.specs.Passes.{row_staying}
 use Rattle.vtable.proofs.CellLaws.{same_cells_are}
 use Rattle.condition_sat.proofs.SettledLaws.{settled_holds, settled_is, settled_weight}
@@ -65,21 +65,21 @@ not_second : (a b : Bool) → (a && b) ≡ false → a ≡ true → b ≡ false
 not_second true b h k = h
 not_second false b h k = search rules
 
-pub kept_stand : (model : Expr) (columns : List VColumn) (c : List ℕ) → IsAdmitted model c → (cells : List (Option Value)) (rows : List VRow) → stands c cells (filter_map (kept model columns) rows) ≡ (has_cell cells && stands c cells (map (cut_row model columns) rows))
+pub kept_stand : (model : Expr) (columns : List VColumn) (c : List ℕ) → IsAdmitted model c → (cells : List (Option Value)) (rows : List VRow) → has_row_with c cells (filter_map (kept model columns) rows) ≡ (has_cell cells && has_row_with c cells (map (cut_row model columns) rows))
 kept_stand model columns c admitted cells [] = sym (and-false (has_cell cells))
 kept_stand model columns c admitted cells (row ∷ rows) =
     let cut : List (Option Value) = cut_cells model row.cond columns row.cells in
     let rest = kept_stand model columns c admitted cells rows in
     elim (true_or_false (can_hold model row.cond && has_cell (cut_cells model row.cond columns row.cells))) [
       | inl stays ↦
-          ap (stands c cells) (row_kept model columns row rows stays)
+          ap (has_row_with c cells) (row_kept model columns row rows stays)
           ∙ ap₂ (λ s r. (s && same_cells cut cells) || r) (settled_holds model row.cond c admitted) rest
-          ∙ kept_stands (satisfies c row.cond) (same_cells cut cells) (has_cell cells) (stands c cells (map (cut_row model columns) rows))
+          ∙ kept_stands (satisfies c row.cond) (same_cells cut cells) (has_cell cells) (has_row_with c cells (map (cut_row model columns) rows))
           (λ same. subst (λ xs. has_cell xs ≡ true) (same_cells_are cut cells same) (and_second (can_hold model row.cond) (has_cell cut) stays))
       | inr gone ↦
-          ap (stands c cells) (row_gone model columns row rows gone)
+          ap (has_row_with c cells) (row_gone model columns row rows gone)
           ∙ rest
-          ∙ gone_stands (satisfies c row.cond) (same_cells cut cells) (has_cell cells) (stands c cells (map (cut_row model columns) rows))
+          ∙ gone_stands (satisfies c row.cond) (same_cells cut cells) (has_cell cells) (has_row_with c cells (map (cut_row model columns) rows))
           (λ here same. subst (λ xs. has_cell xs ≡ false) (same_cells_are cut cells same) (not_second (can_hold model row.cond) (has_cell cut) gone (some_admitted_of model (λ d. satisfies d row.cond) c admitted here)))
     ]
 

@@ -74,7 +74,7 @@ pub record IsTableForm (model : Expr) (table : VTable) : Type 0 where
   pub ascending : rows_ascend table.rows ≡ true
 
 -- the table form under some model
-pub record IsFormed (table : VTable) : Type 0 where
+pub record HasTableForm (table : VTable) : Type 0 where
   pub model : Expr
   pub form : IsTableForm model table
 
@@ -109,8 +109,8 @@ abbrev pub rows_mention : ℕ → List VRow → Bool
 rows_mention feature rows = list_any (λ (row : VRow). mentions feature row.cond) rows
 
 -- whether, among the rows that are there in the variant, one has these cells
-abbrev pub stands : List ℕ → List (Option Value) → List VRow → Bool
-stands c cells rows = list_any (λ (row : VRow). satisfies c row.cond && same_cells row.cells cells) rows
+abbrev pub has_row_with : List ℕ → List (Option Value) → List VRow → Bool
+has_row_with c cells rows = list_any (λ (row : VRow). satisfies c row.cond && same_cells row.cells cells) rows
 
 -- What a table is in table form. The columns that stay keep their order, and their condition or `true`. A list of cells
 -- is there, in an admitted configuration, exactly where it has a cell and a row that is there is cut to it: since
@@ -120,7 +120,7 @@ stands c cells rows = list_any (λ (row : VRow). satisfies c row.cond && same_ce
 pub record IsNormalOf (model : Expr) (before after : VTable) : Type 0 where
   pub form : IsTableForm model after
   pub columns : after.columns ≡ columns_staying model before.columns
-  pub rows : (c : List ℕ) → IsAdmitted model c → (cells : List (Option Value)) → stands c cells after.rows ≡ (has_cell cells && stands c cells (map (cut_row model before.columns) before.rows))
+  pub rows : (c : List ℕ) → IsAdmitted model c → (cells : List (Option Value)) → has_row_with c cells after.rows ≡ (has_cell cells && has_row_with c cells (map (cut_row model before.columns) before.rows))
   pub answer : (c : List ℕ) → IsAdmitted model c → IsAnswerAt c after
   pub same : (c : List ℕ) → IsAdmitted model c → SameRelation (answer_at c after) (answer_at c before)
   pub fewer : length after.rows ≤ length before.rows

@@ -3,7 +3,7 @@ ghost use Rattle.std.specs.List.{filter_map};
 ghost use Rattle.std.specs.Option.{option_to_list};
 ghost use Rattle.condition_sat.specs.Admitted.{IsAdmitted};
 ghost use Rattle.vtable.specs.Answers.{IsAnswerAt};
-ghost use Rattle.vtable.specs.TableForm.{IsFormed, IsNormalOf, columns_are_distinct};
+ghost use Rattle.vtable.specs.TableForm.{HasTableForm, IsNormalOf, columns_are_distinct};
 ghost use Rattle.vtable.specs.Passes.{IsDecision, row_staying, table_row};
 
 use crate::columns::{decided_columns, staying_columns};
@@ -86,7 +86,7 @@ impl marker::Model for OutTable {
     ghost use Rattle.std.specs.Coded.{codes};
     ghost use Rattle.vtable.specs.contracts.table.VTable as t;
     ghost use Rattle.vtable.specs.declared.table.VTable.{VTable};
-    ghost use Rattle.vtable.specs.TableForm.{IsFormed};
+    ghost use Rattle.vtable.specs.TableForm.{HasTableForm};
 
     ghost Value = { VTable };
 
@@ -94,13 +94,13 @@ impl marker::Model for OutTable {
 
     ghost view = { λ out. out.table };
 
-    ghost invariant = { λ out. IsFormed out.table };
+    ghost invariant = { λ out. HasTableForm out.table };
 }
 
 impl OutTable {
     pub fn table(&self) -> &VTable
         ensures table { result.now ≡ self.now }
-        ensures form { IsFormed self.now }
+        ensures form { HasTableForm self.now }
     {
         &self.table
     }
