@@ -11,10 +11,8 @@ mod join;
 mod out_table;
 mod plain;
 mod table;
-#[cfg(test)]
-mod tests;
 
-pub use configured::configure;
-pub use out_table::{OutTable, normal};
+pub use configured::{configure, made_plain};
+pub use out_table::{OutTable, made_normal, normal};
 pub use plain::{Plain, PlainColumn};
 pub use table::{VColumn, VRow, VTable};

@@ -117,7 +117,7 @@ pub fn normal(alloc: Global, model: &Model, table: VTable) -> Result<OutTable, M
     Ok(OutTable { table })
 }
 
-/// The passes, one after another. Of a table that isn't a well-formed answer nothing is said.
+/// The same, as a plain table, by one pass after another. Of a table that isn't a well-formed answer nothing is said.
 pub fn made_normal(alloc: Global, model: &Model, table: VTable) -> Result<VTable, Memory>
     ensures { IfOk result (λ after. columns_are_distinct table.columns ≡ true → ((c : Items ℕ) → IsAdmitted model.now c → IsAnswerAt c table) → IsNormalOf model.now table after) }
 {

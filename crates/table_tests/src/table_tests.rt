@@ -1,7 +1,4 @@
 //! Tables worked out by hand, as the lists of their columns and rows.
-use crate::configured::made_plain;
-use crate::out_table::made_normal;
-use crate::{Plain, VColumn, VRow, VTable, configure, normal};
 use condition_sat::Model;
 use feature_expr::{
     ColName, Config, Expr, Features, Kind, List, Memory, Name, Text, TryCopy, Value, or, parse_expr,
@@ -10,6 +7,7 @@ use std::alloc::Global;
 use std::fmt::Write;
 use std::str;
 use std::test::Fail;
+use vtable::{Plain, VColumn, VRow, VTable, configure, made_normal, made_plain, normal};
 
 /// The features A and B, with the numbers 0 and 1.
 fn letters(alloc: Global) -> Result<Features, Fail> {
@@ -357,10 +355,13 @@ fn nothing_stays_nothing(rt: HostRuntime) -> Result<(), Fail> {
     Ok(())
 }
 
-/// A disjunction of a million links over 40 features.
+/// How many links a chain has: a recursion down one would exhaust the stack.
+const LINKS: u32 = 300_000;
+
+/// A disjunction of so many links over 40 features.
 fn chain(alloc: Global) -> Result<Expr, Memory> {
     let mut chain = Expr::Feature(0);
-    for link in 1..1_000_000u32 {
+    for link in 1..LINKS {
         chain = or(alloc, chain, Expr::Feature((link % 40) as u8))?;
     }
     Ok(chain)
