@@ -13,3 +13,4 @@ mod SessionLaws
 mod StartLaws
 mod StartTextLaws
 mod TableLaws
+mod UnreadLaws

@@ -1,25 +1,26 @@
 -- A step of the session machine, by what its rule left.
-use Rattle.std.proofs.Common.{◌≡◌, ◌∙◌, ℕ, ◌≤◌, true, false, not, List, [], ◌++◌, length, take, drop, Option, Some, None, refl, sym, ap, subst, take-append-drop, take_all, length-take-le, le_of_eq}
-use Rattle.pg_messages.specs.FrontReading.{front_head, front_body, front_of, is_query}
+use Rattle.std.proofs.Common.{◌≡◌, ◌∙◌, ℕ, ◌≤◌, true, not, List, [], ◌++◌, length, take, drop, Option, Some, None, refl, sym, ap, subst, take-append-drop, take_all, length-take-le, le_of_eq}
+use Rattle.pg_messages.specs.FrontReading.{front_head, front_of}
 use Rattle.pg_messages.specs.FrontSpelling.{IsFront}
-use Rattle.pg_messages.specs.Packet.{length_of, is_more, is_more_head}
-use Rattle.pg_messages.specs.StartupReading.{startup_head, startup_fields, startup_of, is_start}
+use Rattle.pg_messages.specs.Packet.{length_of, is_more}
+use Rattle.pg_messages.specs.StartupReading.{startup_head, startup_of}
 use Rattle.pg_messages.specs.StartupSpelling.{IsStartup}
 use Rattle.pg_messages.specs.declared.back.Back.{Back}
 use Rattle.pg_messages.specs.declared.decoded.Decoded.TheVariants as decoded
 use Rattle.pg_messages.specs.declared.decoded.Why.{Why}
 use Rattle.pg_messages.specs.declared.front.Front.{Front}
+use Rattle.pg_messages.specs.declared.front.Front.TheVariants as front
 use Rattle.pg_messages.specs.declared.startup.Startup.{Startup}
-use Rattle.pg_messages.specs.declared.packet.Head.{Head}
-use Rattle.pg_messages.specs.declared.packet.Head.TheVariants as head
-use Rattle.pg_messages.proofs.Packets.{is_more_packet}
+use Rattle.pg_messages.specs.declared.startup.Startup.TheVariants as startup
+use Rattle.pg_messages.proofs.FrontLaws.{front_again}
+use Rattle.pg_messages.proofs.StartupLaws.{startup_again}
 use Rattle.session_poll.specs.declared.opening.Opening.{Opening}
 use Rattle.session_poll.specs.declared.session.Session.{Session}
 use Rattle.session_poll.specs.declared.state.Phase.{Phase}
 use Rattle.session_poll.specs.declared.state.Phase.TheVariants as phases
 use Rattle.session_poll.specs.Courses.{Course, Input, StartUp, Message, Bad, Unread, Next}
-use Rattle.session_poll.specs.Packets.{is_bad, IsStartupCut, IsFrontCut, IsReadAs}
-use Rattle.session_poll.specs.Parts.{Same, Drops, Skips, Takes, Moved, Idles}
+use Rattle.session_poll.specs.Packets.{is_bad, IsStartupMessage, IsQuery, IsReadAs}
+use Rattle.session_poll.specs.Parts.{Same, Drops, BeginsStartup, BeginsQuery, Skips, Takes, Moved, Idles}
 use Rattle.session_poll.specs.Queries.{RunsStatement, RunsOut, EndsQuery}
 use Rattle.session_poll.specs.Replies.{spelled}
 use Rattle.session_poll.specs.Runs.{HasSnapshot}
@@ -63,53 +64,30 @@ pub message_bad : (opening : Opening) (old mid new : Session) (place : ℕ) (cau
 message_bad opening old mid new place cause is bad d t =
     moved_by opening old mid new phases.Ready Bad Rejects (length (held_of old)) is (λ s c r. r) d t (rw (all_held (held_of old)) (ap is_bad bad)) (ap (λ x. not (is_more x)) bad)
 
--- work waits where a packet is cut off by its head
-head_worked : {K : Type 0} (x : Head K) (count : ℕ) → length_of x ≡ Some count → is_more_head x ≡ false
-head_worked head.More count is = absurd cc
-head_worked (head.Bad place cause) count is = refl
-head_worked (head.Packet kind n) count is = refl
+-- a packet that wasn't read
+worked_startup : (count : ℕ) (held : List ℕ) → IsStartupMessage (take count held) → not (is_more (startup_of held)) ≡ true
+worked_startup count held is =
+    ap (λ h. not (is_more (startup_of h))) (sym (take-append-drop count held)) ∙ ap (λ x. not (is_more x)) (startup_again (startup.Start is.pairs) (take count held) (drop count held) is.spelled)
 
-startup_worked : (count : ℕ) (held : List ℕ) → length_of (startup_head held) ≡ Some count → not (is_more (startup_of held)) ≡ true
-unfolding startup_of
-startup_worked count held is = ap not (is_more_packet startup_fields 8 (startup_head held) held ∙ head_worked (startup_head held) count is)
+worked_query : (count : ℕ) (held : List ℕ) → IsQuery (take count held) → not (is_more (front_of held)) ≡ true
+worked_query count held is =
+    ap (λ h. not (is_more (front_of h))) (sym (take-append-drop count held)) ∙ ap (λ x. not (is_more x)) (front_again (front.Query is.text) (take count held) (drop count held) is.spelled)
 
-front_worked : (count : ℕ) (held : List ℕ) → length_of (front_head held) ≡ Some count → not (is_more (front_of held)) ≡ true
-unfolding front_of
-front_worked count held is = ap not (is_more_packet front_body 5 (front_head held) held ∙ head_worked (front_head held) count is)
+start_skipped : (opening : Opening) (old mid new : Session) (found : Option ℕ) → old.phase ≡ phases.Start → BeginsStartup found (held_of old) → Skips found old mid → Takes RefusesStart mid new → Moved opening old new
+start_skipped opening old mid new None is unread s t = absurd s
+start_skipped opening old mid new (Some count) is unread s t =
+    moved_by opening old mid new phases.Start Unread RefusesStart count is (λ s c r. r) s.1 t unread (worked_startup count (held_of old) unread)
 
--- the packet that is cut off is one by its head
-cut_length : (count : ℕ) (held : List ℕ) → count ≤ length held → count ≡ length (take count held)
-cut_length count held within = sym (length-take-le count held within)
+pub start_unread : (opening : Opening) (old mid new : Session) → old.phase ≡ phases.Start → BeginsStartup (length_of (startup_head (held_of old))) (held_of old) → Skips (length_of (startup_head (held_of old))) old mid → Takes RefusesStart mid new → Moved opening old new
+start_unread opening old mid new is unread s t = start_skipped opening old mid new (length_of (startup_head (held_of old))) is unread s t
 
-startup_cut : (count : ℕ) (held : List ℕ) → count ≤ length held → is_start (startup_head held) ≡ true → length_of (startup_head held) ≡ Some count → IsStartupCut (take count held)
-startup_cut count held within kind is = record {
-  behind = drop count held;
-  kind = ap (λ (h : List ℕ). is_start (startup_head h)) (take-append-drop count held) ∙ kind;
-  cut = ap (λ (h : List ℕ). length_of (startup_head h)) (take-append-drop count held) ∙ is ∙ ap Some (cut_length count held within);
-}
+message_skipped : (opening : Opening) (old mid new : Session) (found : Option ℕ) → old.phase ≡ phases.Ready → BeginsQuery found (held_of old) → Skips found old mid → Takes RunsOut mid new → Moved opening old new
+message_skipped opening old mid new None is unread s t = absurd s
+message_skipped opening old mid new (Some count) is unread s t =
+    moved_by opening old mid new phases.Ready Unread RunsOut count is (λ s c r. r) s.1 t unread (worked_query count (held_of old) unread)
 
-front_cut : (count : ℕ) (held : List ℕ) → count ≤ length held → is_query (front_head held) ≡ true → length_of (front_head held) ≡ Some count → IsFrontCut (take count held)
-front_cut count held within kind is = record {
-  behind = drop count held;
-  kind = ap (λ (h : List ℕ). is_query (front_head h)) (take-append-drop count held) ∙ kind;
-  cut = ap (λ (h : List ℕ). length_of (front_head h)) (take-append-drop count held) ∙ is ∙ ap Some (cut_length count held within);
-}
-
-start_skipped : (opening : Opening) (old mid new : Session) (found : Option ℕ) → length_of (startup_head (held_of old)) ≡ found → is_start (startup_head (held_of old)) ≡ true → old.phase ≡ phases.Start → Skips found old mid → Takes RefusesStart mid new → Moved opening old new
-start_skipped opening old mid new None there kind is s t = absurd s
-start_skipped opening old mid new (Some count) there kind is s t =
-    moved_by opening old mid new phases.Start Unread RefusesStart count is (λ s c r. r) s.1 t (startup_cut count (held_of old) s.0 kind there) (startup_worked count (held_of old) there)
-
-pub start_unread : (opening : Opening) (old mid new : Session) → old.phase ≡ phases.Start → is_start (startup_head (held_of old)) ≡ true → Skips (length_of (startup_head (held_of old))) old mid → Takes RefusesStart mid new → Moved opening old new
-start_unread opening old mid new is kind s t = start_skipped opening old mid new (length_of (startup_head (held_of old))) refl kind is s t
-
-message_skipped : (opening : Opening) (old mid new : Session) (found : Option ℕ) → length_of (front_head (held_of old)) ≡ found → is_query (front_head (held_of old)) ≡ true → old.phase ≡ phases.Ready → Skips found old mid → Takes RunsOut mid new → Moved opening old new
-message_skipped opening old mid new None there kind is s t = absurd s
-message_skipped opening old mid new (Some count) there kind is s t =
-    moved_by opening old mid new phases.Ready Unread RunsOut count is (λ s c r. r) s.1 t (front_cut count (held_of old) s.0 kind there) (front_worked count (held_of old) there)
-
-pub message_unread : (opening : Opening) (old mid new : Session) → old.phase ≡ phases.Ready → is_query (front_head (held_of old)) ≡ true → Skips (length_of (front_head (held_of old))) old mid → Takes RunsOut mid new → Moved opening old new
-message_unread opening old mid new is kind s t = message_skipped opening old mid new (length_of (front_head (held_of old))) refl kind is s t
+pub message_unread : (opening : Opening) (old mid new : Session) → old.phase ≡ phases.Ready → BeginsQuery (length_of (front_head (held_of old))) (held_of old) → Skips (length_of (front_head (held_of old))) old mid → Takes RunsOut mid new → Moved opening old new
+message_unread opening old mid new is unread s t = message_skipped opening old mid new (length_of (front_head (held_of old))) is unread s t
 
 -- neither the next statement of a Query nor its end takes bytes
 pub gone_on : (opening : Opening) (old new : Session) (first : Statement) (left : List Statement) → old.phase ≡ phases.Statements first left → Takes (λ s c. RunsStatement opening first left (in_phase phases.Ready s) c) old new → Moved opening old new

@@ -1,12 +1,14 @@
 -- How the grammar of messages cuts the input into packets.
-use Rattle.std.specs.Prelude.{◌≡◌, ℕ, Bool, true, false, List, [], ◌++◌, length, Some}
-use Rattle.pg_messages.specs.FrontReading.{front_head, front_of, is_query}
+use Rattle.std.specs.Prelude.{◌≡◌, ℕ, Bool, true, false, List, []}
+use Rattle.pg_messages.specs.FrontReading.{front_of}
 use Rattle.pg_messages.specs.FrontSpelling.{IsFront}
-use Rattle.pg_messages.specs.Packet.{length_of}
-use Rattle.pg_messages.specs.StartupReading.{startup_head, startup_of, is_start}
+use Rattle.pg_messages.specs.StartupReading.{startup_of}
 use Rattle.pg_messages.specs.StartupSpelling.{IsStartup}
 use Rattle.pg_messages.specs.declared.decoded.Decoded.{Decoded}
 use Rattle.pg_messages.specs.declared.decoded.Decoded.TheVariants as decoded
+use Rattle.pg_messages.specs.declared.front.Front.TheVariants as front
+use Rattle.pg_messages.specs.declared.startup.Pair.{Pair}
+use Rattle.pg_messages.specs.declared.startup.Startup.TheVariants as startup
 use Rattle.session_poll.specs.declared.state.Phase.{Phase}
 use Rattle.session_poll.specs.declared.state.Phase.TheVariants as phases
 use Rattle.session_poll.specs.Courses.{Input, StartUp, Message, Bad, Unread, Next}
@@ -17,26 +19,25 @@ is_bad decoded.More = false
 is_bad (decoded.Bad place cause) = true
 is_bad decoded.Memory = false
 
--- the bytes are, by its head, the StartupMessage at the front of some input
-pub record IsStartupCut (packet : List ℕ) : Type 0 where
-  pub behind : List ℕ
-  pub kind : is_start (startup_head (packet ++ behind)) ≡ true
-  pub cut : length_of (startup_head (packet ++ behind)) ≡ Some (length packet)
+-- the bytes are a StartupMessage
+pub record IsStartupMessage (packet : List ℕ) : Type 0 where
+  pub pairs : List Pair
+  pub spelled : IsStartup (startup.Start pairs) packet
 
--- the bytes are, by its head, the Query at the front of some input
-pub record IsFrontCut (packet : List ℕ) : Type 0 where
-  pub behind : List ℕ
-  pub kind : is_query (front_head (packet ++ behind)) ≡ true
-  pub cut : length_of (front_head (packet ++ behind)) ≡ Some (length packet)
+-- the bytes are a Query
+pub record IsQuery (packet : List ℕ) : Type 0 where
+  pub text : List ℕ
+  pub spelled : IsFront (front.Query text) packet
 
--- The bytes that an input takes: those that spell it, in the grammar of its phase. A packet that is taken unread is
--- one by its head alone. Those of a bad packet begin with it. The next step of a Query takes none.
+-- The bytes that an input takes: those that spell it, in the grammar of its phase. A packet that is taken unread is a
+-- StartupMessage or a Query, by the same grammar. Those of a bad packet begin with it. The next step of a Query takes
+-- none.
 abbrev pub IsReadAs : Phase → Input → List ℕ → Type 0
 IsReadAs phases.Start (StartUp packet) bytes = IsStartup packet bytes
-IsReadAs phases.Start Unread bytes = IsStartupCut bytes
+IsReadAs phases.Start Unread bytes = IsStartupMessage bytes
 IsReadAs phases.Start Bad bytes = is_bad (startup_of bytes) ≡ true
 IsReadAs phases.Ready (Message message) bytes = IsFront message bytes
-IsReadAs phases.Ready Unread bytes = IsFrontCut bytes
+IsReadAs phases.Ready Unread bytes = IsQuery bytes
 IsReadAs phases.Ready Bad bytes = is_bad (front_of bytes) ≡ true
 IsReadAs (phases.Statements first left) Next bytes = bytes ≡ []
 IsReadAs (phases.Query complete) Next bytes = bytes ≡ []

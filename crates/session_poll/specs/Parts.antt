@@ -1,5 +1,5 @@
 -- What the parts of a step leave of a session.
-use Rattle.std.specs.Prelude.{◌≡◌, ℕ, ◌≤◌, Bool, true, false, [], ◌∷◌, ◌++◌, ◌⊎◌, drop, length, Option, Some, None}
+use Rattle.std.specs.Prelude.{◌≡◌, ℕ, ◌≤◌, Bool, true, false, List, [], ◌∷◌, ◌++◌, ◌⊎◌, take, drop, length, Option, Some, None}
 use Rattle.pg_messages.specs.declared.back.Back.{Back}
 use Rattle.session_poll.specs.declared.opening.Opening.{Opening}
 use Rattle.session_poll.specs.declared.refusal.Refusal.{Refusal}
@@ -9,7 +9,7 @@ use Rattle.session_poll.specs.declared.state.Phase.TheVariants as phases
 use Rattle.session_poll.specs.Answers.{IsAnswer}
 use Rattle.session_poll.specs.AnswerMessages.{answer_messages, select_complete}
 use Rattle.session_poll.specs.Courses.{Course}
-use Rattle.session_poll.specs.Packets.{IsReadAs}
+use Rattle.session_poll.specs.Packets.{IsStartupMessage, IsQuery, IsReadAs}
 use Rattle.session_poll.specs.Queries.{Tells}
 use Rattle.session_poll.specs.Replies.{spelled, error_of, ready_for_query}
 use Rattle.session_poll.specs.Runs.{AllFit, Did, HasSnapshot}
@@ -42,6 +42,15 @@ pub record Drops (count : ℕ) (old new : Session) : Type 0 where
   pub output : new.output ≡ old.output
   pub held : held_of new ≡ drop count (held_of old)
   pub over : is_over new ≡ is_over old
+
+-- a StartupMessage, or a Query, of so many bytes begins those that are held
+abbrev pub BeginsStartup : Option ℕ → List ℕ → Type 0
+BeginsStartup None held = ⊥
+BeginsStartup (Some count) held = IsStartupMessage (take count held)
+
+abbrev pub BeginsQuery : Option ℕ → List ℕ → Type 0
+BeginsQuery None held = ⊥
+BeginsQuery (Some count) held = IsQuery (take count held)
 
 -- so many bytes are dropped, where there is such a number
 abbrev pub Skips : Option ℕ → Session → Session → Type 0

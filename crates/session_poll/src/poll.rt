@@ -1,13 +1,13 @@
 //! A poll: none or one step of the session machine.
 
 ghost use Rattle.std.specs.Prelude.{◌≡◌, ◌≤◌, ◌++◌, true, false, not, length, take, drop, is_some, min, IfOk, IfSome, OnErr};
-ghost use Rattle.pg_messages.specs.FrontReading.{front_head, front_of, is_query};
+ghost use Rattle.pg_messages.specs.FrontReading.{front_head, front_of};
 ghost use Rattle.pg_messages.specs.FrontSpelling.{IsFront};
 ghost use Rattle.pg_messages.specs.Packet.{Answers, IfWhole, IfMemory, length_of};
-ghost use Rattle.pg_messages.specs.StartupReading.{startup_head, startup_of, is_start};
+ghost use Rattle.pg_messages.specs.StartupReading.{startup_head, startup_of};
 ghost use Rattle.pg_messages.specs.StartupSpelling.{IsStartup};
 ghost use Rattle.session_poll.specs.declared.state.Phase.TheVariants as phases;
-ghost use Rattle.session_poll.specs.Parts.{Drops, Skips, Moves, Takes, WantsMemory};
+ghost use Rattle.session_poll.specs.Parts.{BeginsStartup, BeginsQuery, Drops, Skips, Moves, Takes, WantsMemory};
 ghost use Rattle.session_poll.specs.Polls.{Polls};
 ghost use Rattle.session_poll.specs.Servable.{IsServable};
 ghost use Rattle.session_poll.specs.Session.{held_of};
@@ -21,6 +21,7 @@ use feature_expr::Memory;
 use pg_messages::{
     Decoded, Front, Startup, decode_front, decode_startup, front_length, startup_length,
 };
+use std::alloc::Global;
 
 impl Session {
     /// Takes at most one packet, one more statement of a Query or a Query's end, and says how the session stands then.
@@ -138,18 +139,18 @@ impl Session {
         ensures whole { IfWhole result (λ m n. (n ≤ length (held_of self.now)) × IsStartup m (take n (held_of self.now))) }
         ensures exact { Answers result (startup_of (held_of self.now)) }
         ensures memory { IfMemory result (is_some (length_of (startup_head (held_of self.now))) ≡ true) }
-        ensures kind { IfMemory result (is_start (startup_head (held_of self.now)) ≡ true) }
+        ensures unread { IfMemory result (BeginsStartup (length_of (startup_head (held_of self.now))) (held_of self.now)) }
     {
-        decode_startup(self.alloc, self.inbox.bytes())
+        read_startup(self.alloc, self.inbox.bytes())
     }
 
     fn next_front(&self) -> Decoded<Front>
         ensures whole { IfWhole result (λ m n. (n ≤ length (held_of self.now)) × IsFront m (take n (held_of self.now))) }
         ensures exact { Answers result (front_of (held_of self.now)) }
         ensures memory { IfMemory result (is_some (length_of (front_head (held_of self.now))) ≡ true) }
-        ensures kind { IfMemory result (is_query (front_head (held_of self.now)) ≡ true) }
+        ensures unread { IfMemory result (BeginsQuery (length_of (front_head (held_of self.now))) (held_of self.now)) }
     {
-        decode_front(self.alloc, self.inbox.bytes())
+        read_front(self.alloc, self.inbox.bytes())
     }
 
     /// Drops a packet that was taken.
@@ -187,4 +188,24 @@ impl Session {
             self.inbox.discard(count);
         }
     }
+}
+
+/// The start-up packet at the front of the bytes. One for which no memory is found is a StartupMessage.
+fn read_startup(alloc: Global, bytes: &[u8]) -> Decoded<Startup>
+    ensures whole { IfWhole result (λ m n. (n ≤ length bytes.now) × IsStartup m (take n bytes.now)) }
+    ensures exact { Answers result (startup_of bytes.now) }
+    ensures memory { IfMemory result (is_some (length_of (startup_head bytes.now)) ≡ true) }
+    ensures unread { IfMemory result (BeginsStartup (length_of (startup_head bytes.now)) bytes.now) }
+{
+    decode_startup(alloc, bytes)
+}
+
+/// The message at the front of the bytes. One for which no memory is found is a Query.
+fn read_front(alloc: Global, bytes: &[u8]) -> Decoded<Front>
+    ensures whole { IfWhole result (λ m n. (n ≤ length bytes.now) × IsFront m (take n bytes.now)) }
+    ensures exact { Answers result (front_of bytes.now) }
+    ensures memory { IfMemory result (is_some (length_of (front_head bytes.now)) ≡ true) }
+    ensures unread { IfMemory result (BeginsQuery (length_of (front_head bytes.now)) bytes.now) }
+{
+    decode_front(alloc, bytes)
 }
