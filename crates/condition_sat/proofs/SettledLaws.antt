@@ -1,6 +1,6 @@
 -- A condition that is settled, and the constant `true`.
 use Rattle.std.proofs.Common.{◌≡◌, ℕ, ◌+◌, ◌≤◌, ◌&&◌, ◌||◌, Bool, true, false, not, if◌then◌else◌, List, refl, sym, ◌∙◌, ap, subst, rules, arith, ◌⊎◌, inl, inr}
-use Rattle.feature_expr.specs.declared.expr.Expr.{Expr, fold-Expr, out-Expr}
+use Rattle.feature_expr.specs.declared.expr.Expr.{Expr, out-Expr}
 use Rattle.feature_expr.specs.declared.expr.Expr as e
 use Rattle.feature_expr.specs.declared.expr.Expr.TheOpen.{Expr-F}
 use Rattle.feature_expr.specs.declared.expr.Expr.TheFolds.{fold_out-Expr}

@@ -3,12 +3,12 @@ use Rattle.std.proofs.Common.{Bool, ◌≡◌, ◌≢◌, ℕ, ◌+◌, ◌<◌,
 use Rattle.feature_expr.specs.declared.parse.Sign.TheVariants as sign
 use Rattle.feature_expr.specs.declared.parse.Fault.{Fault}
 use Rattle.feature_expr.specs.declared.parse.Fault.TheVariants as fault
-use Rattle.feature_expr.specs.declared.token.Token.{Token}
-use Rattle.feature_expr.specs.Grammar.{Symbol, Terminal, Nonterminal, AnyOf, Matches, NeverFirst}
+use Rattle.word_tokens.specs.declared.token.Token.{Token}
+use Rattle.word_tokens.specs.Grammar.{Symbol, Terminal, Nonterminal, AnyOf, Matches, NeverFirst}
 use Rattle.feature_expr.specs.ExprGrammar.{Part, Mark, Own, Disjunction, MoreOr, Conjunction, MoreAnd, Negation, nesting_of, forms, signs_of, sign_at, feature_at, fits, IsRead, IsRefused}
 use Rattle.feature_expr.specs.ExprTexts.{alone, none_fits}
-use Rattle.feature_expr.specs.GrammarLaws.{here, close_sign, close_part}
-use Rattle.feature_expr.specs.ChainForms.{Through, IsChain, through_reaches, through_fault, through_leads, through_through, to_first, to_more, to_item, to_next, ends}
+use Rattle.word_tokens.proofs.GrammarLaws.{here, close_sign, close_part}
+use Rattle.word_tokens.proofs.ChainForms.{Through, IsChain, through_reaches, through_fault, through_leads, through_through, to_first, to_more, to_item, to_next, ends}
 use Rattle.feature_expr.proofs.NegationLaws.{to_not, to_open, leads_feature, leads_brackets, fault_unclosed, fault_begin, fault_not, fault_open}
 
 -- a part leads to another under every limit from the given one on

@@ -6,7 +6,7 @@ use Rattle.feature_expr.specs.declared.parse.ExprRefused.{ExprRefused}
 use Rattle.feature_expr.specs.declared.parse.ExprRefused.TheVariants as refused
 use Rattle.feature_expr.specs.declared.parse.Fault.{Fault}
 use Rattle.feature_expr.specs.declared.parse.Fault.TheVariants as fault
-use Rattle.feature_expr.specs.declared.token.Token.{Token}
+use Rattle.word_tokens.specs.declared.token.Token.{Token}
 use Rattle.feature_expr.specs.ExprGrammar.{AreKnown, IsFirst}
 use Rattle.feature_expr.specs.ExprTexts.{IsFirstFault, IsFault, IsText, Refusal, IsRefusedText, placed_at, GivesFault}
 use Rattle.feature_expr.proofs.OneLaws.{one_tokens}

@@ -15,19 +15,20 @@ use Rattle.feature_expr.specs.declared.expr.Expr as e
 use Rattle.feature_expr.specs.declared.parse.Sign.TheVariants as sign
 use Rattle.feature_expr.specs.declared.print.Position.{Position}
 use Rattle.feature_expr.specs.declared.print.Position.TheVariants as position
-use Rattle.feature_expr.specs.declared.token.Token.{Token}
-use Rattle.feature_expr.specs.declared.token.TokenKind.{TokenKind}
-use Rattle.feature_expr.specs.declared.token.TokenKind.TheVariants as kind
-use Rattle.feature_expr.specs.Names.{continues_word, is_word_of, is_name_of, same_word_as, refusal}
-use Rattle.feature_expr.specs.Tokens.{bytes_of, is_mark, scanned_at, token_at, blank_end, IfBad, StandAt, AreTokens}
+use Rattle.word_tokens.specs.declared.token.Token.{Token}
+use Rattle.word_tokens.specs.declared.token.TokenKind.{TokenKind}
+use Rattle.word_tokens.specs.declared.token.TokenKind.TheVariants as kind
+use Rattle.word_tokens.specs.Words.{continues_word, is_word_of, is_name_of, same_word_as}
+use Rattle.feature_expr.specs.Names.{refusal}
+use Rattle.word_tokens.specs.Tokens.{bytes_of, is_mark, scanned_at, token_at, blank_end, IfBad, StandAt, AreTokens}
 use Rattle.feature_expr.specs.ExprGrammar.{Part, Disjunction, Conjunction, Negation, sign_of_kind, sign_of_token, sign_at, Spells, one_conjunction, disjunction, one_negation, conjunction, negation, truth, falsehood, feature, brackets}
 use Rattle.feature_expr.specs.ExprTexts.{IsText}
 use Rattle.feature_expr.specs.Printing.{takes_and, takes_or, opening, closing, bracket_count, name_of, text_step, text_at, text_of, is_opening, open_brackets}
 use Rattle.feature_expr.proofs.NameLaws.{feature_name, named_word}
 use Rattle.feature_expr.proofs.OneLaws.{one_tokens}
 use Rattle.feature_expr.proofs.PrintLaws.{text_at-True, text_at-False, text_at-Feature, text_at-And, text_at-Or}
-use Rattle.feature_expr.proofs.StandLaws.{both_true, starts_on}
-use Rattle.feature_expr.proofs.TokenLaws.{scanned_behind, blank_behind}
+use Rattle.word_tokens.proofs.StandLaws.{both_true, starts_on}
+use Rattle.word_tokens.proofs.TokenLaws.{scanned_behind, blank_behind}
 
 -- how many brackets stand in the text of a node at a position, where it is known of its parts
 abbrev count_step : Expr-F (Position → ℕ) → Position → ℕ

@@ -1,4 +1,3 @@
-pub mod BlankLaws
 pub mod ChainLaws
 pub mod ConfigBits
 pub mod ExprLaws
@@ -12,14 +11,11 @@ pub mod NestingLaws
 pub mod OccurringLaws
 pub mod OneLaws
 pub mod PartLaws
-pub mod PlaceLaws
 pub mod PrintLaws
 pub mod PrintedLaws
-pub mod QuoteLaws
 pub mod ReadingLaws
-pub mod StandLaws
+pub mod SignLaws
 pub mod TextLaws
-pub mod TokenLaws
 pub mod VariantLaws
 pub mod WholeLaws
 pub mod WrittenLaws

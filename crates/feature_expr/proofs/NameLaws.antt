@@ -6,12 +6,13 @@ use Rattle.std.specs.Str.{bytes_eq}
 use Rattle.std.proofs.lemmas.Bool.Decides.{nat_tests}
 use Rattle.std.proofs.lemmas.List.Folds.{list_any-append, list_any_at}
 use Rattle.std.proofs.lemmas.Slice.Eq.{bytes_eq-Decides}
-use Rattle.feature_expr.specs.Names.{is_name_of, is_word_of, same_word_as, reserved_words, is_reserved_word, name_limit, among, refusal_from, refusal}
+use Rattle.word_tokens.specs.Words.{is_name_of, is_word_of, same_word_as, reserved_words, is_reserved_word, name_limit}
+use Rattle.feature_expr.specs.Names.{among, refusal_from, refusal}
 use Rattle.feature_expr.specs.declared.features.FeaturesRefused.{FeaturesRefused}
 use Rattle.feature_expr.specs.declared.features.FeaturesRefused.TheVariants as refused
 use Rattle.feature_expr.specs.declared.parse.Sign.TheVariants as sign
 use Rattle.feature_expr.specs.ExprGrammar.{sign_of_word}
-use Rattle.feature_expr.proofs.StandLaws.{both_true}
+use Rattle.word_tokens.proofs.StandLaws.{both_true}
 
 -- a word that is no reserved one isn't the one at this place among them
 pub reserved_false : (name : List ℕ) (place : ℕ) (b : Bool) → place < length reserved_words → same_word_as name (get_or reserved_words place []) ≡ b → is_reserved_word name ≡ false → b ≡ false

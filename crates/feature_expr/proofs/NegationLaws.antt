@@ -3,11 +3,11 @@ use Rattle.std.proofs.Common.{◌≡◌, ◌≢◌, ℕ, ◌+◌, ◌<◌, ◌�
 use Rattle.std.proofs.lemmas.Bool.Decides.{nat_tests}
 use Rattle.feature_expr.specs.declared.parse.Sign.{Sign}
 use Rattle.feature_expr.specs.declared.parse.Sign.TheVariants as sign
-use Rattle.feature_expr.specs.declared.token.Token.{Token}
-use Rattle.feature_expr.specs.Grammar.{Symbol, Terminal, Nonterminal, AnyOf, Matches, NeverFirst, Leads, Reaches, FaultAt}
+use Rattle.word_tokens.specs.declared.token.Token.{Token}
+use Rattle.word_tokens.specs.Grammar.{Symbol, Terminal, Nonterminal, AnyOf, Matches, NeverFirst, Leads, Reaches, FaultAt}
 use Rattle.feature_expr.specs.ExprGrammar.{Part, Mark, Own, Disjunction, Negation, nested, forms, sign_at, fits}
-use Rattle.feature_expr.specs.GrammarLaws.{here, open_part, close_part, open_sign, close_sign}
-use Rattle.feature_expr.specs.ChainForms.{Through}
+use Rattle.word_tokens.proofs.GrammarLaws.{here, open_part, close_part, open_sign, close_sign}
+use Rattle.word_tokens.proofs.ChainForms.{Through}
 
 pub is_below : (n limit : ℕ) → n < limit → nat_lt n limit ≡ true
 is_below n limit h = grind (arith, nat_tests)

@@ -10,10 +10,10 @@ use Rattle.feature_expr.specs.declared.parse.Sign.{Sign}
 use Rattle.feature_expr.specs.declared.parse.Sign.TheVariants as sign
 use Rattle.feature_expr.specs.declared.print.Position.{Position}
 use Rattle.feature_expr.specs.declared.print.Position.TheVariants as position
-use Rattle.feature_expr.specs.declared.token.Token.{Token}
-use Rattle.feature_expr.specs.Grammar.{Symbol, Terminal, Nonterminal, Matches, NeverFirst, IsFree}
-use Rattle.feature_expr.specs.GrammarLaws.{here, open_sign, close_sign}
-use Rattle.feature_expr.specs.ChainForms.{to_first, to_item, ends}
+use Rattle.word_tokens.specs.declared.token.Token.{Token}
+use Rattle.word_tokens.specs.Grammar.{Symbol, Terminal, Nonterminal, Matches, NeverFirst, IsFree}
+use Rattle.word_tokens.proofs.GrammarLaws.{here, open_sign, close_sign}
+use Rattle.word_tokens.proofs.ChainForms.{to_first, to_item, ends}
 use Rattle.feature_expr.specs.Printing.{nesting_step, nesting_at, text_nesting}
 use Rattle.feature_expr.specs.ExprGrammar.{Part, Disjunction, MoreOr, Conjunction, MoreAnd, Negation, Outer, Mark, Own, forms, fits, sign_at, IsRead, Spells}
 use Rattle.feature_expr.specs.ExprTexts.{alone, none_fits, IsViable}

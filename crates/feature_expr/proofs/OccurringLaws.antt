@@ -8,10 +8,10 @@ use Rattle.feature_expr.specs.declared.expr.Expr.TheFolds.{fold-roll-Expr}
 use Rattle.feature_expr.specs.declared.expr.Expr.TheVariants.{rolls-True, rolls-False, rolls-Feature}
 use Rattle.feature_expr.specs.declared.expr.Expr.TheOpen.{Expr-F}
 use Rattle.feature_expr.specs.declared.expr.Expr as e
-use Rattle.feature_expr.specs.declared.token.Token.{Token}
+use Rattle.word_tokens.specs.declared.token.Token.{Token}
 use Rattle.feature_expr.specs.Expressions.{mentions_step, mentions}
 use Rattle.feature_expr.specs.Printing.{HasNames}
-use Rattle.feature_expr.specs.Tokens.{bytes_of}
+use Rattle.word_tokens.specs.Tokens.{bytes_of}
 use Rattle.feature_expr.specs.ExprGrammar.{Part, Disjunction, Conjunction, Negation, feature_of, Spells, one_conjunction, disjunction, one_negation, conjunction, negation, truth, falsehood, feature, brackets}
 use Rattle.feature_expr.proofs.PrintedLaws.{mentions_And, mentions_Or, mentions_Not}
 

@@ -2,10 +2,10 @@
 use Rattle.std.proofs.Common.{◌≡◌, ℕ, List, [], ◌∷◌, refl, arith}
 use Rattle.feature_expr.specs.declared.expr.Expr.{Expr}
 use Rattle.feature_expr.specs.declared.parse.Sign.TheVariants as sign
-use Rattle.feature_expr.specs.declared.token.Token.{Token}
-use Rattle.feature_expr.specs.declared.token.TokenKind.{TokenKind}
-use Rattle.feature_expr.specs.declared.token.TokenKind.TheVariants as kind
-use Rattle.feature_expr.specs.Tokens.{IfBad, StandAt, AreTokens, blank_end}
+use Rattle.word_tokens.specs.declared.token.Token.{Token}
+use Rattle.word_tokens.specs.declared.token.TokenKind.{TokenKind}
+use Rattle.word_tokens.specs.declared.token.TokenKind.TheVariants as kind
+use Rattle.word_tokens.specs.Tokens.{IfBad, StandAt, AreTokens, blank_end}
 use Rattle.feature_expr.specs.ExprGrammar.{Disjunction, sign_at, Spells}
 use Rattle.feature_expr.specs.ExprTexts.{IsText}
 use Rattle.feature_expr.proofs.ReadingLaws.{one_spelling}

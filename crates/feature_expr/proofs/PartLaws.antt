@@ -6,9 +6,9 @@ use Rattle.feature_expr.specs.declared.parse.Fault.{Fault}
 use Rattle.feature_expr.specs.declared.parse.Fault.TheVariants as fault
 use Rattle.feature_expr.specs.declared.parse.Sign.{Sign}
 use Rattle.feature_expr.specs.declared.parse.Sign.TheVariants as sign
-use Rattle.feature_expr.specs.declared.token.Token.{Token}
-use Rattle.feature_expr.specs.Grammar.{Symbol, Terminal, Nonterminal, Matches, NeverFirst, IsFree, FaultAt, Reaches}
-use Rattle.feature_expr.specs.GrammarLaws.{here, open_part, open_sign, close_sign}
+use Rattle.word_tokens.specs.declared.token.Token.{Token}
+use Rattle.word_tokens.specs.Grammar.{Symbol, Terminal, Nonterminal, Matches, NeverFirst, IsFree, FaultAt, Reaches}
+use Rattle.word_tokens.proofs.GrammarLaws.{here, open_part, open_sign, close_sign}
 use Rattle.feature_expr.specs.ExprGrammar.{Part, Disjunction, MoreOr, Conjunction, MoreAnd, Negation, Mark, Own, forms, fits, signs_of, sign_at, IsRead, IsRefused, IsFirst, Spells, one_conjunction, disjunction, one_negation, conjunction, negation, truth, falsehood, feature, brackets}
 use Rattle.feature_expr.specs.ExprTexts.{alone, none_fits}
 use Rattle.feature_expr.proofs.NegationLaws.{to_not, to_open, leads_true, leads_false, leads_feature}

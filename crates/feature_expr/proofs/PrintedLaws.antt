@@ -13,17 +13,19 @@ use Rattle.feature_expr.specs.declared.expr.Expr as e
 use Rattle.feature_expr.specs.declared.parse.Sign.TheVariants as sign
 use Rattle.feature_expr.specs.declared.print.Position.{Position}
 use Rattle.feature_expr.specs.declared.print.Position.TheVariants as position
-use Rattle.feature_expr.specs.declared.token.Token.{Token}
-use Rattle.feature_expr.specs.declared.token.TokenKind.TheVariants as kind
-use Rattle.feature_expr.specs.Names.{is_word_of, refusal}
-use Rattle.feature_expr.specs.Tokens.{StandAt, AreTokens, blank_end}
+use Rattle.word_tokens.specs.declared.token.Token.{Token}
+use Rattle.word_tokens.specs.declared.token.TokenKind.TheVariants as kind
+use Rattle.word_tokens.specs.Words.{is_word_of}
+use Rattle.feature_expr.specs.Names.{refusal}
+use Rattle.word_tokens.specs.Tokens.{StandAt, AreTokens, blank_end}
 use Rattle.feature_expr.specs.ExprTexts.{IsText}
 use Rattle.feature_expr.specs.Expressions.{mentions_step, mentions}
 use Rattle.feature_expr.specs.Printing.{takes_and, takes_or, text_step, text_at, bracket_count, nesting_step, nesting_at, text_nesting, text_of, HasNames}
 use Rattle.feature_expr.specs.ExprGrammar.{Part, Disjunction, Conjunction, Negation, sign_at, feature_at}
 use Rattle.feature_expr.proofs.NameLaws.{feature_name, name_sign, named_word}
 use Rattle.feature_expr.proofs.PrintLaws.{text_at-True, text_at-False, text_at-Feature, text_at-And, text_at-Or}
-use Rattle.feature_expr.proofs.StandLaws.{EndsWord, TokenIs, Stands, drop_past, word_stands, open_stands, close_stands, space_stands, sign_is}
+use Rattle.word_tokens.proofs.StandLaws.{EndsWord, TokenIs, Stands, drop_past, word_stands, open_stands, close_stands, space_stands}
+use Rattle.feature_expr.proofs.SignLaws.{sign_is}
 use Rattle.feature_expr.proofs.WrittenLaws.{IsWritten, written_true, written_false, written_feature, written_not, written_brackets, written_read, written_first_and, written_first_or, written_and, written_or}
 use Rattle.feature_expr.proofs.TextLaws.{whole}
 

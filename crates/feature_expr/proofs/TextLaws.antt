@@ -4,12 +4,12 @@ use Rattle.feature_expr.specs.declared.parse.ExprRefused.{ExprRefused}
 use Rattle.feature_expr.specs.declared.parse.Fault.{Fault}
 use Rattle.feature_expr.specs.declared.parse.Fault.TheVariants as fault
 use Rattle.feature_expr.specs.declared.parse.Sign.TheVariants as sign
-use Rattle.feature_expr.specs.declared.token.Token.{Token}
-use Rattle.feature_expr.specs.Grammar.{Terminal, NeverFirst, IsFree}
-use Rattle.feature_expr.specs.Tokens.{AreTokens}
+use Rattle.word_tokens.specs.declared.token.Token.{Token}
+use Rattle.word_tokens.specs.Grammar.{Terminal, NeverFirst, IsFree}
+use Rattle.word_tokens.specs.Tokens.{AreTokens}
 use Rattle.feature_expr.specs.ExprGrammar.{Own, sign_at, Disjunction, forms, fits, IsRead, IsRefused, IsFirst}
 use Rattle.feature_expr.specs.ExprTexts.{alone, none_fits, IsViable, IsFault, placed_at, IsRefusedText}
-use Rattle.feature_expr.specs.GrammarLaws.{here, open_sign, close_sign}
+use Rattle.word_tokens.proofs.GrammarLaws.{here, open_sign, close_sign}
 
 module _ (names : List (List ℕ)) (text : List ℕ) (tokens : List Token) (most : ℕ) where
   never_or : (limit : ℕ) → NeverFirst (forms alone limit) (fits none_fits text tokens) (Own sign.Or) (Terminal (Own sign.End) ∷ [])

@@ -11,12 +11,12 @@ use Rattle.feature_expr.specs.declared.parse.Fault.{Fault}
 use Rattle.feature_expr.specs.declared.parse.Fault.TheVariants as fault
 use Rattle.feature_expr.specs.declared.parse.Sign.{Sign}
 use Rattle.feature_expr.specs.declared.parse.Sign.TheVariants as sign
-use Rattle.feature_expr.specs.declared.token.Token.{Token}
-use Rattle.feature_expr.specs.declared.token.TokenKind.{TokenKind}
-use Rattle.feature_expr.specs.declared.token.TokenKind.TheVariants as kind
-use Rattle.feature_expr.specs.Names.{same_word_as, is_name_of}
-use Rattle.feature_expr.specs.Grammar.{Symbol, Terminal, Nonterminal, AnyOf, MatchesIn}
-use Rattle.feature_expr.specs.Tokens.{bytes_of}
+use Rattle.word_tokens.specs.declared.token.Token.{Token}
+use Rattle.word_tokens.specs.declared.token.TokenKind.{TokenKind}
+use Rattle.word_tokens.specs.declared.token.TokenKind.TheVariants as kind
+use Rattle.word_tokens.specs.Words.{same_word_as, is_name_of}
+use Rattle.word_tokens.specs.Grammar.{Symbol, Terminal, Nonterminal, AnyOf, MatchesIn}
+use Rattle.word_tokens.specs.Tokens.{bytes_of}
 use Rattle.feature_expr.specs.ExprGrammar.{Part, Disjunction, MoreOr, Conjunction, MoreAnd, Negation, Outer, Mark, Own, Foreign, nested, forms, fits, sign_of_kind, sign_of_token, sign_at, AreKnown, IsFirst, Spells, one_conjunction, disjunction, one_negation, conjunction, negation, truth, falsehood, feature, brackets}
 use Rattle.feature_expr.specs.ExprTexts.{alone, none_fits, IsViable, IsFault, IsText, Refusal, IsRefusedText}
 use Rattle.feature_expr.proofs.KnownLaws.{known_join, known_other, known_close, known_feature}

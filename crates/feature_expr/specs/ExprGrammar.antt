@@ -1,18 +1,18 @@
 -- The grammar of feature expressions, over the tokens of a text, and what they spell.
 use Rattle.std.specs.Prelude.{Bool, true, ◌≡◌, ℕ, ◌+◌, ◌<◌, ◌≤◌, ◌==◌, if◌then◌else◌, List, [], ◌∷◌, Option, Some, None, codes, length, slice_get, nat_lt, position}
 use Rattle.std.specs.Str.{bytes_eq}
-use Rattle.feature_expr.specs.Names.{same_word_as, is_name_of}
-use Rattle.feature_expr.specs.Tokens.{bytes_of}
-use Rattle.feature_expr.specs.Grammar.{Symbol, Terminal, Nonterminal, Leads, Reaches, FaultAt}
+use Rattle.word_tokens.specs.Words.{same_word_as, is_name_of}
+use Rattle.word_tokens.specs.Tokens.{bytes_of}
+use Rattle.word_tokens.specs.Grammar.{Symbol, Terminal, Nonterminal, Leads, Reaches, FaultAt}
 use Rattle.feature_expr.specs.declared.expr.Expr.{Expr}
 use Rattle.feature_expr.specs.declared.expr.Expr as e
 use Rattle.feature_expr.specs.declared.parse.Fault.{Fault}
 use Rattle.feature_expr.specs.declared.parse.Fault.TheVariants as fault
 use Rattle.feature_expr.specs.declared.parse.Sign.{Sign}
 use Rattle.feature_expr.specs.declared.parse.Sign.TheVariants as sign
-use Rattle.feature_expr.specs.declared.token.TokenKind.{TokenKind}
-use Rattle.feature_expr.specs.declared.token.TokenKind.TheVariants as kind
-use Rattle.feature_expr.specs.declared.token.Token.{Token}
+use Rattle.word_tokens.specs.declared.token.TokenKind.{TokenKind}
+use Rattle.word_tokens.specs.declared.token.TokenKind.TheVariants as kind
+use Rattle.word_tokens.specs.declared.token.Token.{Token}
 
 -- the parts, each with the number of brackets and `not` that are open round it, and the parts of a grammar that has
 -- expressions among its own

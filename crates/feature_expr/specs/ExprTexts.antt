@@ -1,7 +1,7 @@
 -- Texts that are expressions, and why others aren't.
 use Rattle.std.specs.Prelude.{Bool, false, ◌≡◌, ◌≢◌, ℕ, ◌+◌, ◌<◌, ◌≤◌, List, [], ◌∷◌, None, Result, Ok, Err}
-use Rattle.feature_expr.specs.Grammar.{Symbol, Terminal, Nonterminal, Matches}
-use Rattle.feature_expr.specs.Tokens.{AreTokens, place_at}
+use Rattle.word_tokens.specs.Grammar.{Symbol, Terminal, Nonterminal, Matches}
+use Rattle.word_tokens.specs.Tokens.{AreTokens, place_at}
 use Rattle.feature_expr.specs.ExprGrammar.{Part, Mark, Own, Disjunction, forms, fits, sign_at, feature_at, IsFirst, Spells}
 use Rattle.feature_expr.specs.declared.expr.Expr.{Expr}
 use Rattle.feature_expr.specs.declared.parse.ExprRefused.{ExprRefused}
@@ -9,7 +9,7 @@ use Rattle.feature_expr.specs.declared.parse.ExprRefused.TheVariants as refused
 use Rattle.feature_expr.specs.declared.parse.Fault.{Fault}
 use Rattle.feature_expr.specs.declared.parse.Fault.TheVariants as fault
 use Rattle.feature_expr.specs.declared.parse.Sign.TheVariants as sign
-use Rattle.feature_expr.specs.declared.token.Token.{Token}
+use Rattle.word_tokens.specs.declared.token.Token.{Token}
 
 -- expressions alone: no other grammar stands round them
 abbrev pub alone : ℕ → ℕ → List (List (Symbol Part Mark))

@@ -6,8 +6,8 @@ use Rattle.feature_expr.specs.declared.expr.Expr.TheOpen.{Expr-F}
 use Rattle.feature_expr.specs.Expressions.{mentions}
 use Rattle.feature_expr.specs.declared.print.Position.{Position}
 use Rattle.feature_expr.specs.declared.print.Position.TheVariants as position
-use Rattle.feature_expr.specs.declared.token.Token.{Token}
-use Rattle.feature_expr.specs.Tokens.{is_mark_of_text}
+use Rattle.word_tokens.specs.declared.token.Token.{Token}
+use Rattle.word_tokens.specs.Tokens.{is_mark_of_text}
 
 -- whether a chain of `and` stands there without brackets
 abbrev pub takes_and : Position → Bool

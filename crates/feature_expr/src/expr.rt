@@ -4,9 +4,9 @@ ghost use Rattle.feature_expr.specs.Expressions.{weight_of, mentions, and_of, or
 ghost use Rattle.feature_expr.specs.Chains.{wrapped, rewrapped};
 
 use crate::config::Config;
-use crate::memory::{Memory, TryCopy};
 use sqlite_items::Boxed;
 use std::alloc::Global;
+use values::{Memory, TryCopy};
 
 /// A propositional formula over features, which go by their number.
 ///

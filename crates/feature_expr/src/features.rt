@@ -1,51 +1,14 @@
-ghost use Rattle.std.specs.Prelude.{◌≡◌, ℕ, List as Items, ◌<◌, ◌==◌, ◌-◌, ◌&&◌, length, slice_get, Some, None, IfOk, IfErr, IfSome, IfNone, position, nat_lt, nat_le, not as negation};
+ghost use Rattle.std.specs.Prelude.{◌≡◌, ℕ, List as Items, ◌<◌, ◌==◌, ◌-◌, length, slice_get, Some, None, IfOk, IfErr, position};
 ghost use Rattle.std.specs.Option.{option_copied};
-ghost use Rattle.std.specs.List.{list_any, list_all};
 ghost use Rattle.std.specs.Str.{bytes_eq};
-ghost use Rattle.feature_expr.specs.Names.{starts_word, continues_word, is_word_of, same_word_as, is_reserved_word, is_name_of, among, refusal};
+ghost use Rattle.feature_expr.specs.Names.{among, refusal};
 
 use crate::config::FEATURE_LIMIT;
-use crate::list::List;
-use crate::memory::{Memory, TryCopy};
-use crate::text::Name;
 use std::alloc::Global;
 use std::marker::Model;
 use thiserror::Error;
-
-/// The greatest length of a name, in bytes.
-pub const NAME_LIMIT: usize = 63;
-
-/// The words that are never a name, in any case.
-pub const RESERVED: [&[u8]; 28] = [
-    b"alter",
-    b"and",
-    b"as",
-    b"begin",
-    b"choice",
-    b"commit",
-    b"create",
-    b"delete",
-    b"empty",
-    b"except",
-    b"false",
-    b"from",
-    b"insert",
-    b"into",
-    b"join",
-    b"none",
-    b"not",
-    b"on",
-    b"or",
-    b"rollback",
-    b"select",
-    b"set",
-    b"true",
-    b"union",
-    b"update",
-    b"values",
-    b"when",
-    b"where",
-];
+use values::{List, Memory, Name, TryCopy};
+use word_tokens::is_name;
 
 /// Why a list of names isn't one of features.
 #[derive(Clone, Copy, Debug, PartialEq, Eq, Error)]
@@ -84,68 +47,6 @@ impl TryCopy for Features {
         let names = self.names.copy(alloc)?;
         Ok(Features { names })
     }
-}
-
-/// Whether the name is a word of 1 to 63 bytes that isn't reserved.
-pub fn is_name(name: &Name) -> bool
-    ensures { result ≡ is_name_of name.now }
-{
-    is_name_word(name.as_slice())
-}
-
-/// Whether bytes are a name, as `is_name` says.
-pub fn is_name_word(bytes: &[u8]) -> bool
-    ensures { result ≡ is_name_of bytes.now }
-{
-    bytes.len() <= NAME_LIMIT && is_word(bytes) && !is_reserved(bytes)
-}
-
-/// Whether a byte is a letter or `_`.
-pub fn is_word_start(byte: u8) -> bool
-    ensures { result ≡ starts_word byte }
-{
-    byte.is_ascii_alphabetic() || byte == b'_'
-}
-
-/// Whether a byte is a letter, a digit or `_`.
-pub fn is_word_part(byte: u8) -> bool
-    ensures { result ≡ continues_word byte }
-{
-    byte.is_ascii_alphanumeric() || byte == b'_'
-}
-
-fn is_word(bytes: &[u8]) -> bool
-    ensures { result ≡ is_word_of bytes.now }
-{
-    match bytes.split_first() {
-        Some((first, rest)) => is_word_start(*first) && is_word_tail(rest),
-        None => false,
-    }
-}
-
-fn is_word_tail(bytes: &[u8]) -> bool
-    ensures { result ≡ list_all continues_word bytes.now }
-{
-    bytes.iter().all(|byte| is_word_part(*byte))
-}
-
-/// Whether two words are the same but for ASCII case.
-pub fn same_word(left: &[u8], right: &[u8]) -> bool
-    ensures { result ≡ same_word_as left.now right.now }
-{
-    left.eq_ignore_ascii_case(right)
-}
-
-fn is_reserved(bytes: &[u8]) -> bool
-    ensures { result ≡ is_reserved_word bytes.now }
-{
-    is_one_of(bytes, &RESERVED)
-}
-
-fn is_one_of(bytes: &[u8], words: &[&[u8]]) -> bool
-    ensures { result ≡ list_any (λ word. same_word_as bytes.now word.now) words.now }
-{
-    words.iter().any(|word| same_word(bytes, word))
 }
 
 /// Whether the name is among those before it.

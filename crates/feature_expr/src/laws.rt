@@ -1,20 +1,22 @@
 ghost use Rattle.std.specs.Prelude.{◌≡◌, ◌≢◌, ℕ, ◌≤◌, List, map, None};
 ghost use Rattle.feature_expr.specs.declared.config.TheConstants.{FEATURE_LIMIT};
 ghost use Rattle.feature_expr.specs.declared.expr.Expr.{Expr};
-ghost use Rattle.feature_expr.specs.declared.features.TheConstants.{NAME_LIMIT, RESERVED};
+ghost use Rattle.word_tokens.specs.declared.words.TheConstants.{NAME_LIMIT, RESERVED};
 ghost use Rattle.feature_expr.specs.declared.parse.ExprRefused.{ExprRefused};
+ghost use Rattle.feature_expr.specs.declared.parse.TheConstants.{NESTING_LIMIT};
 ghost use Rattle.feature_expr.specs.declared.parse.ExprRefused.TheVariants as refused;
-ghost use Rattle.feature_expr.specs.declared.token.TheConstants.{PARAMETER_LIMIT};
-ghost use Rattle.feature_expr.specs.declared.token.Token.{Token};
+ghost use Rattle.word_tokens.specs.declared.token.TheConstants.{PARAMETER_LIMIT};
+ghost use Rattle.word_tokens.specs.declared.token.Token.{Token};
 ghost use Rattle.feature_expr.specs.ExprTexts.{IsText, IsRefusedText};
-ghost use Rattle.feature_expr.specs.Names.{refusal, reserved_words};
+ghost use Rattle.word_tokens.specs.Words.{reserved_words};
+ghost use Rattle.feature_expr.specs.Names.{refusal};
 ghost use Rattle.feature_expr.specs.Printing.{HasNames, text_nesting, text_of, open_brackets};
-ghost use Rattle.feature_expr.specs.Tokens.{AreTokens, HasTokens};
+ghost use Rattle.word_tokens.specs.Tokens.{AreTokens, HasTokens};
 
 /// Laws of texts and their expressions. The call itself does nothing.
 #[tactic(auto, using(crate::proofs::OneLaws::one_tokens))]
 pub fn expression_laws()
-    ensures limits { (NAME_LIMIT ≡ 63) × (FEATURE_LIMIT ≡ 64) × (PARAMETER_LIMIT ≡ 1024) }
+    ensures limits { (NAME_LIMIT ≡ 63) × (FEATURE_LIMIT ≡ 64) × (PARAMETER_LIMIT ≡ 1024) × (NESTING_LIMIT ≡ 64) }
     ensures reserved { map (λ word. word.now) RESERVED ≡ reserved_words }
     // A text has tokens, and one list of them.
     ensures split { (text : List ℕ) → HasTokens text }

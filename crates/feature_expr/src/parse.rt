@@ -1,6 +1,6 @@
 ghost use Rattle.std.specs.Prelude.{◌≡◌, ◌≢◌, ℕ, true, false, ◌<◌, ◌≤◌, ◌+◌, length, slice_get, IfOk, IfErr, IsTrue};
 ghost use Rattle.std.specs.Option.{option_copied};
-ghost use Rattle.feature_expr.specs.Tokens.{bytes_of, is_word_at, is_mark_at, place_at, AreTokens};
+ghost use Rattle.word_tokens.specs.Tokens.{bytes_of, is_word_at, is_mark_at, place_at, AreTokens};
 ghost use Rattle.feature_expr.specs.ExprGrammar.{Disjunction, Conjunction, Negation, sign_of_kind, sign_of_word, sign_of_mark, sign_at, feature_at, IsToken, IsRead, IsRefused, AreKnown, IsFirst, Spells};
 ghost use Rattle.feature_expr.specs.ExprTexts.{IsViable, IsFault, IsText, IsRefusedText, Gives, GivesFault, placed_at};
 ghost use Rattle.feature_expr.specs.Printing.{HasNames, text_nesting, text_of};
@@ -11,11 +11,14 @@ ghost use Rattle.feature_expr.specs.declared.parse.Fault.TheVariants as fault;
 ghost use Rattle.feature_expr.specs.declared.parse.Sign.TheVariants as sign;
 
 use crate::expr::{Expr, make_and, make_not, make_or};
-use crate::features::{Features, is_name_word, same_word};
-use crate::memory::Memory;
-use crate::token::{Token, TokenKind, end_place, tokens};
+use crate::features::Features;
 use std::alloc::Global;
 use thiserror::Error;
+use values::Memory;
+use word_tokens::{Token, TokenKind, end_place, is_name_word, same_word, tokens};
+
+/// How deep brackets, `not` and `choice` may nest in statements and in a catalogue.
+pub const NESTING_LIMIT: u32 = 64;
 
 /// Why a text isn't an expression, with the place of the first fault, a count of characters from 1.
 #[derive(Clone, Copy, Debug, PartialEq, Eq, Error)]

@@ -4,9 +4,8 @@ ghost use Rattle.feature_expr.specs.Rests.{text_behind};
 
 use crate::expr::Expr;
 use crate::features::Features;
-use crate::memory::Memory;
-use crate::text::Text;
 use std::alloc::Global;
+use values::{Memory, Text};
 
 /// What stands at a place without brackets: an operand takes no chain, a conjunct one of `and`, a disjunct any.
 #[derive(Clone, Copy)]

@@ -3,8 +3,7 @@ ghost use Rattle.feature_expr.specs.Variants.{held_names, separated, separator, 
 
 use crate::config::Config;
 use crate::features::Features;
-use crate::memory::Memory;
-use crate::text::Name;
+use values::{Memory, Name};
 
 /// Adds the names of the features that hold, in the order of the features, as `{A,B}`.
 pub fn push_variant(text: &mut Vec<u8>, features: &Features, config: &Config) -> Result<(), Memory>

@@ -1,10 +1,10 @@
-use feature_expr::{List, Text};
 use pg_messages::{
     Back, Decoded, EncodeRefused, Field, Front, Startup, decode_back, decode_startup, encode_back,
     encode_front, encode_startup,
 };
 use std::alloc::Global;
 use std::test::Fail;
+use values::{List, Text};
 
 /// Messages of a server, which are read and written again.
 const BACKEND_MESSAGES: [&[u8]; 9] = [

@@ -1,4 +1,4 @@
-use feature_expr::{List, Text};
+use values::{List, Text};
 
 /// The greatest length of a backend message.
 pub const BACK_LIMIT: u32 = 2_147_483_647;

@@ -10,8 +10,8 @@ use crate::back::{BACK_LIMIT, Back, BackKind, ErrorField, Field, MINUS_ONE, Stat
 use crate::decoded::Decoded;
 use crate::fields::{Fault, end, read_byte, read_string, read_text, read_u16, read_u32};
 use crate::packet::{Head, MESSAGE_HEAD, decoded, read_message_head};
-use feature_expr::{List, Text};
 use std::alloc::Global;
+use values::{List, Text};
 
 /// A field of a row's description whose name is lent.
 #[derive(Clone, Copy, Drop)]

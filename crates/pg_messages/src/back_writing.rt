@@ -9,7 +9,7 @@ use crate::puts::{
     checked_length, is_string_text, put, put_byte, put_string, put_u16, put_u32, room_for,
     string_len,
 };
-use feature_expr::{List, Text};
+use values::{List, Text};
 
 /// Writes a message at the end. What was there stays, whatever the answer.
 #[tactic(auto, using(crate::proofs::Lengths::refusal_told, crate::proofs::BackLaws::back_written))]

@@ -7,8 +7,8 @@ ghost use Rattle.std.specs.List.{position};
 ghost use Rattle.pg_messages.specs.Fields.{ReadsAs, Reads, is_zero, number_at, byte_at, string_at};
 ghost use Rattle.pg_messages.specs.Packet.{ended};
 
-use feature_expr::{Memory, Text};
 use std::alloc::Global;
+use values::{Memory, Text};
 
 /// Why a field wasn't copied.
 #[derive(Debug, Drop)]

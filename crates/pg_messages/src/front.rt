@@ -1,4 +1,4 @@
-use feature_expr::Text;
+use values::Text;
 
 /// The greatest length of a frontend message.
 pub const FRONT_LIMIT: u32 = 1_048_580;

@@ -9,8 +9,8 @@ use crate::decoded::Decoded;
 use crate::fields::{Fault, end, read_string};
 use crate::front::{FRONT_LIMIT, Front, FrontKind};
 use crate::packet::{Head, MESSAGE_HEAD, decoded, read_message_head};
-use feature_expr::Text;
 use std::alloc::Global;
+use values::Text;
 
 /// The message of a client at the front of the bytes. What lies behind it isn't looked at.
 pub fn decode_front(alloc: Global, bytes: &[u8]) -> Decoded<Front>

@@ -5,7 +5,7 @@ ghost use Rattle.std.specs.Int.{w16, w32, to_be_bytes, cast_unsigned};
 ghost use Rattle.pg_messages.specs.Spelling.{string, is_string, capped, refusal_of, Checks};
 
 use crate::encode_refused::EncodeRefused;
-use feature_expr::Text;
+use values::Text;
 
 pub fn put(bytes: &[u8], into: &mut Vec<u8>)
     requires { vec_len into.old + length bytes.now ≤ vec_capacity into.old }

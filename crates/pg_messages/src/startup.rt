@@ -1,4 +1,4 @@
-use feature_expr::{List, Text};
+use values::{List, Text};
 
 /// The code of a StartupMessage, the protocol's number 3.0.
 pub const STARTUP_CODE: u32 = 196_608;

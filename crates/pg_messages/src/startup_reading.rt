@@ -10,8 +10,8 @@ use crate::decoded::{Decoded, Why};
 use crate::fields::{Fault, read_string};
 use crate::packet::{Head, decoded};
 use crate::startup::{Pair, STARTUP_CODE, STARTUP_LIMIT, Startup, StartupKind};
-use feature_expr::{List, Text};
 use std::alloc::Global;
+use values::{List, Text};
 
 /// The bytes before a start-up packet's fields: its length and its code.
 const STARTUP_HEAD: usize = 8;

@@ -3,9 +3,9 @@
 -- stands twice counts once.
 use Rattle.std.specs.Prelude.{Bool, true, false, ◌≡◌, ◌&&◌, ℕ, List, [], ◌∷◌, map, Option, Some, None, if◌then◌else◌, Contains, ◌⊎◌, ◌↔◌}
 use Rattle.std.specs.Str.{bytes_eq}
-use Rattle.feature_expr.specs.declared.column_name.ColName.{ColName}
-use Rattle.feature_expr.specs.declared.value.Kind.{Kind}
-use Rattle.feature_expr.specs.declared.value.Value.{Value}
+use Rattle.values.specs.declared.column_name.ColName.{ColName}
+use Rattle.values.specs.declared.value.Kind.{Kind}
+use Rattle.values.specs.declared.value.Value.{Value}
 
 pub record Column : Type 0 where
   pub name : ColName

@@ -1,16 +1,16 @@
 -- Choices, put together from their parts.
 use Rattle.std.proofs.Common.{true, false, ◌≡◌, ℕ, ◌+◌, ◌<◌, ◌≤◌, List, arith}
 use Rattle.feature_expr.specs.declared.expr.Expr.{Expr}
-use Rattle.feature_expr.specs.declared.token.Token.{Token}
+use Rattle.word_tokens.specs.declared.token.Token.{Token}
 use Rattle.query_parser.specs.Faults.{ExpressionFault, ChoiceFault, in_chooser, square_unclosed, no_sides, sides_too_deep}
 use Rattle.query_parser.specs.Lexemes.{stands}
 use Rattle.query_parser.specs.Parts.{IsExpression, IsChoice}
 use Rattle.query_parser.specs.declared.fault.ParseFault.{ParseFault}
 use Rattle.query_parser.specs.declared.fault.ParseFault.TheVariants as fault
 use Rattle.query_parser.specs.declared.lexeme.Lexeme.TheVariants as lexeme
-use Rattle.query_parser.specs.declared.lexeme.TheConstants.{NESTING_LIMIT}
+use Rattle.feature_expr.specs.Nesting.{nesting_limit}
 
-module _ (names : List (List ℕ)) (text : List ℕ) (tokens : List Token) (nesting at inner from : ℕ) (inside : inner ≡ nesting + 1) (follows : from ≡ at + 1 + 1) (begins : stands text tokens at lexeme.Choice ≡ true) (within : nesting < NESTING_LIMIT) (square : stands text tokens (at + 1) lexeme.OpenSquare ≡ true) where
+module _ (names : List (List ℕ)) (text : List ℕ) (tokens : List Token) (nesting at inner from : ℕ) (inside : inner ≡ nesting + 1) (follows : from ≡ at + 1 + 1) (begins : stands text tokens at lexeme.Choice ≡ true) (within : nesting < nesting_limit) (square : stands text tokens (at + 1) lexeme.OpenSquare ≡ true) where
   two : from ≡ at + 2
   two = omega arith
 
@@ -28,10 +28,10 @@ module _ (names : List (List ℕ)) (text : List ℕ) (tokens : List Token) (nest
       pub choice_unopened : (why : ParseFault) → why ≡ fault.Syntax next → stands text tokens next lexeme.Open ≡ false → ChoiceFault names text tokens nesting at why
       choice_unopened why is unopened = rw (is, behind) (no_sides expr close begins within square chosen squared (rw behind at unopened))
 
-      pub choice_sides_deep : (why : ParseFault) → why ≡ fault.TooDeep next → stands text tokens next lexeme.Open ≡ true → NESTING_LIMIT ≤ inner → ChoiceFault names text tokens nesting at why
+      pub choice_sides_deep : (why : ParseFault) → why ≡ fault.TooDeep next → stands text tokens next lexeme.Open ≡ true → nesting_limit ≤ inner → ChoiceFault names text tokens nesting at why
       choice_sides_deep why is opens deep = rw (is, behind) (sides_too_deep expr close begins within square chosen squared (rw behind at opens) (rw inside at deep))
 
-      pub choice_is : (sides : ℕ) → sides ≡ next + 1 → stands text tokens next lexeme.Open ≡ true → inner < NESTING_LIMIT → IsChoice names text tokens nesting at expr sides
+      pub choice_is : (sides : ℕ) → sides ≡ next + 1 → stands text tokens next lexeme.Open ≡ true → inner < nesting_limit → IsChoice names text tokens nesting at expr sides
       choice_is sides ends opens fits = record {
         begins = begins;
         within = within;

@@ -1,11 +1,11 @@
 -- Going through a condition on rows.
 use Rattle.std.proofs.Common.{Bool, true, false, ◌≡◌, ◌≢◌, ◌∙◌, ◌<◌, ◌≤◌, ℕ, ◌+◌, List, [], ◌∷◌, ◌++◌, Some, None, ◌⊎◌, inl, inr, refl, arith, nat_lt}
 use Rattle.std.proofs.lemmas.Bool.Decides.{nat_tests}
-use Rattle.feature_expr.specs.Grammar.{Terminal, Nonterminal}
+use Rattle.word_tokens.specs.Grammar.{Terminal, Nonterminal}
 use Rattle.feature_expr.specs.ExprGrammar.{Foreign, Outer}
 use Rattle.feature_expr.specs.declared.expr.Expr.{Expr}
-use Rattle.feature_expr.specs.declared.token.Token.{Token}
-use Rattle.feature_expr.specs.declared.value.Value.TheVariants as value
+use Rattle.word_tokens.specs.declared.token.Token.{Token}
+use Rattle.values.specs.declared.value.Value.TheVariants as value
 use Rattle.vra_syntax.specs.declared.cond.Cond.{Cond}
 use Rattle.vra_syntax.specs.declared.cond.Op.{Op}
 use Rattle.vra_syntax.specs.declared.cond.Operand.{Operand}
@@ -19,7 +19,7 @@ use Rattle.query_parser.specs.StatementGrammar.{takes, Form, outer, within, Sign
 use Rattle.query_parser.specs.declared.fault.ParseFault.{ParseFault}
 use Rattle.query_parser.specs.declared.fault.ParseFault.TheVariants as fault
 use Rattle.query_parser.specs.declared.lexeme.Lexeme.TheVariants as lexeme
-use Rattle.query_parser.specs.declared.lexeme.TheConstants.{NESTING_LIMIT}
+use Rattle.feature_expr.specs.Nesting.{nesting_limit}
 use Rattle.query_parser.proofs.SignLaws.{name_takes, no_name_takes, op_takes, no_op_takes, IsValue, ValueFault, not_a_value, too_large, too_many, none_taken, value_takes, value_fault, bool_takes, plain_takes}
 use Rattle.query_parser.proofs.Walks.{apart, Takes, Moves, chain, Never, not_this, NoneOf, no_part, choose, choose_by, pass, Faulty, reaches, behind, stuck, missing, deep}
 use Rattle.query_parser.proofs.PartWalks.{but, column_takes, no_column_here, never_column, moves_column, faulty_column, moves_operand, faulty_operand, ChoiceHead, HasSides, moves_choice, faulty_choice}
@@ -202,21 +202,21 @@ module _ (text : List ℕ) (tokens : List Token) where
       chain text tokens (to_truth n s at (no_name_takes text tokens at none) (bool_takes text tokens with_params at b is)) (skip 27 0 102 (OperandPart ∷ []) s (at + 1) (λ limit. refl) (no_op_takes text tokens (at + 1) e))
 
   -- the forms that nest
-  into_not : (n : ℕ) (s : Form) (at : ℕ) → n < NESTING_LIMIT → Takes text tokens 2 at → Moves text tokens (CondNegation n ∷ s) at (CondNegation (n + 1) ∷ s) (at + 1)
+  into_not : (n : ℕ) (s : Form) (at : ℕ) → n < nesting_limit → Takes text tokens 2 at → Moves text tokens (CondNegation n ∷ s) at (CondNegation (n + 1) ∷ s) (at + 1)
   into_not n s at low i =
       chain text tokens (choose text tokens 25 n BASE (Sign lexeme.Not ∷ CondNegation (n + 1) ∷ []) ((Sign lexeme.Open ∷ grammar.CondPart (n + 1) ∷ Sign lexeme.Close ∷ []) ∷ ChoiceHead text tokens 26 n ∷ []) s at (λ limit h. negation_forms n limit (omega (arith, low, h)))
       (none_of_base 2 s at refl refl refl refl refl refl i)
       (but text tokens 2 33 (grammar.CondPart (n + 1) ∷ Sign lexeme.Close ∷ s) at refl i, (but text tokens 2 14 (Sign lexeme.OpenSquare ∷ Expression (n + 1) ∷ Sign lexeme.CloseSquare ∷ Nonterminal (Outer 26 (n + 1)) ∷ s) at refl i, tt)))
       (pass text tokens 2 (CondNegation (n + 1) ∷ s) at i)
 
-  into_brackets : (n : ℕ) (s : Form) (at : ℕ) → n < NESTING_LIMIT → Takes text tokens 33 at → Moves text tokens (CondNegation n ∷ s) at (grammar.CondPart (n + 1) ∷ Sign lexeme.Close ∷ s) (at + 1)
+  into_brackets : (n : ℕ) (s : Form) (at : ℕ) → n < nesting_limit → Takes text tokens 33 at → Moves text tokens (CondNegation n ∷ s) at (grammar.CondPart (n + 1) ∷ Sign lexeme.Close ∷ s) (at + 1)
   into_brackets n s at low i =
       chain text tokens (choose text tokens 25 n (BASE ++ (Sign lexeme.Not ∷ CondNegation (n + 1) ∷ []) ∷ []) (Sign lexeme.Open ∷ grammar.CondPart (n + 1) ∷ Sign lexeme.Close ∷ []) (ChoiceHead text tokens 26 n ∷ []) s at (λ limit h. negation_forms n limit (omega (arith, low, h)))
       (let b = none_of_base 33 s at refl refl refl refl refl refl i in (b.0, (b.1.0, (b.1.1.0, (b.1.1.1.0, (b.1.1.1.1.0, (b.1.1.1.1.1.0, (but text tokens 33 2 (CondNegation (n + 1) ∷ s) at refl i, tt))))))))
       (but text tokens 33 14 (Sign lexeme.OpenSquare ∷ Expression (n + 1) ∷ Sign lexeme.CloseSquare ∷ Nonterminal (Outer 26 (n + 1)) ∷ s) at refl i, tt))
       (pass text tokens 33 (grammar.CondPart (n + 1) ∷ Sign lexeme.Close ∷ s) at i)
 
-  into_choice : (n : ℕ) (s : Form) (at : ℕ) → n < NESTING_LIMIT → Takes text tokens 14 at → Moves text tokens (CondNegation n ∷ s) at (ChoiceHead text tokens 26 n ++ s) at
+  into_choice : (n : ℕ) (s : Form) (at : ℕ) → n < nesting_limit → Takes text tokens 14 at → Moves text tokens (CondNegation n ∷ s) at (ChoiceHead text tokens 26 n ++ s) at
   into_choice n s at low i =
       choose text tokens 25 n (BASE ++ (Sign lexeme.Not ∷ CondNegation (n + 1) ∷ []) ∷ (Sign lexeme.Open ∷ grammar.CondPart (n + 1) ∷ Sign lexeme.Close ∷ []) ∷ []) (ChoiceHead text tokens 26 n) [] s at (λ limit h. negation_forms n limit (omega (arith, low, h)))
       (let b = none_of_base 14 s at refl refl refl refl refl refl i in (b.0, (b.1.0, (b.1.1.0, (b.1.1.1.0, (b.1.1.1.1.0, (b.1.1.1.1.1.0, (but text tokens 14 2 (CondNegation (n + 1) ∷ s) at refl i, (but text tokens 14 33 (grammar.CondPart (n + 1) ∷ Sign lexeme.Close ∷ s) at refl i, tt))))))))) tt
@@ -313,9 +313,9 @@ module _ (with_params : Bool) (names : List (List ℕ)) (text : List ℕ) (token
       none_inner : (b : Bool) → NoneOf text tokens s at (within b (INNER text tokens n))
       none_inner true = (not_this text tokens 2 (CondNegation (n + 1) ∷ s) at a, (not_this text tokens 33 (grammar.CondPart (n + 1) ∷ Sign lexeme.Close ∷ s) at b, (not_this text tokens 14 (Sign lexeme.OpenSquare ∷ Expression (n + 1) ∷ Sign lexeme.CloseSquare ∷ Nonterminal (Outer 26 (n + 1)) ∷ s) at c, tt)))
       none_inner false = tt
-  no_operand n at s why a b c other (too_large i) = reaches text tokens NESTING_LIMIT (omega arith) (to_comparison text tokens n s at other (inl i))
-  no_operand n at s why a b c other (too_many i) = reaches text tokens NESTING_LIMIT (omega arith) (to_comparison text tokens n s at other (inr (inr i)))
-  no_operand n at s why a b c other (none_taken i) = reaches text tokens NESTING_LIMIT (omega arith) (to_comparison text tokens n s at other (inr (inr i)))
+  no_operand n at s why a b c other (too_large i) = reaches text tokens nesting_limit (omega arith) (to_comparison text tokens n s at other (inl i))
+  no_operand n at s why a b c other (too_many i) = reaches text tokens nesting_limit (omega arith) (to_comparison text tokens n s at other (inr (inr i)))
+  no_operand n at s why a b c other (none_taken i) = reaches text tokens nesting_limit (omega arith) (to_comparison text tokens n s at other (inr (inr i)))
 
   left_fault : (n at : ℕ) (s : Form) (why : ParseFault) → stands text tokens at lexeme.Not ≡ false → stands text tokens at lexeme.Open ≡ false → stands text tokens at lexeme.Choice ≡ false → OperandFault with_params text tokens at why → Faulty text tokens (CondNegation n ∷ s) at why
   left_fault n at s why a b c operand_memory = tt
@@ -343,11 +343,11 @@ module _ (with_params : Bool) (names : List (List ℕ)) (text : List ℕ) (token
   to_right_side n at sides middle expr left s is l comma = chain text tokens (past_left n at sides middle expr left s is l) (pass text tokens 37 (grammar.CondPart (n + 2) ∷ Sign lexeme.Close ∷ s) middle comma)
 
   -- the forms that nest, where the text may not nest deeper
-  deep_negation : (n sign at : ℕ) (before after : List Form) (rest : Form) (s : Form) → n ≤ NESTING_LIMIT → NESTING_LIMIT ≤ n → Takes text tokens sign at → NoneOf text tokens s at (BASE text tokens) → BASE text tokens ++ INNER text tokens n ≡ before ++ (Terminal (Foreign sign) ∷ rest) ∷ after → Faulty text tokens (CondNegation n ∷ s) at (fault.TooDeep at)
+  deep_negation : (n sign at : ℕ) (before after : List Form) (rest : Form) (s : Form) → n ≤ nesting_limit → nesting_limit ≤ n → Takes text tokens sign at → NoneOf text tokens s at (BASE text tokens) → BASE text tokens ++ INNER text tokens n ≡ before ++ (Terminal (Foreign sign) ∷ rest) ∷ after → Faulty text tokens (CondNegation n ∷ s) at (fault.TooDeep at)
   deep_negation n sign at before after rest s high low i none is =
-      deep text tokens 25 n sign (BASE text tokens) before after rest s at low i (base_forms text tokens n NESTING_LIMIT low) none (λ limit h lower. negation_forms text tokens n limit lower ∙ is) high
+      deep text tokens 25 n sign (BASE text tokens) before after rest s at low i (base_forms text tokens n nesting_limit low) none (λ limit h lower. negation_forms text tokens n limit lower ∙ is) high
 
-  pub fails : (part : CondPart) (at : ℕ) (why : ParseFault) → nesting_of part ≤ NESTING_LIMIT → CondFault with_params names text tokens part at why → Fails part at why
+  pub fails : (part : CondPart) (at : ℕ) (why : ParseFault) → nesting_of part ≤ nesting_limit → CondFault with_params names text tokens part at why → Fails part at why
   fails part at why high (cond_memory p from) = no_memory part at
   fails part at why high (in_first_conjunction n from w f) = λ s free. behind text tokens why (open_condition n s at) (fails (Conjunction n) at why high f (MoreOr n ∷ s) (conjunction_behind text tokens n s free))
   fails part at why high (in_next_conjunction n from left middle w l i f) =
@@ -386,5 +386,5 @@ module _ (with_params : Bool) (names : List (List ℕ)) (text : List ℕ) (token
   reads_where n at end c s (no_where other) free none = skip text tokens 20 n 24 (grammar.CondPart n ∷ []) s at (λ limit. refl) other
   reads_where n at end c s (some_where d last i r) free none = chain text tokens (enter text tokens 20 n 24 (grammar.CondPart n ∷ []) s at (λ limit. refl) i none) (reads (Condition n) (at + 1) c end r s free)
 
-  pub fails_where : (n at : ℕ) (why : ParseFault) (s : Form) → n ≤ NESTING_LIMIT → WhereFault with_params names text tokens n at why → FreeCondition text tokens s → Never text tokens 24 s → Faulty text tokens (Where n ∷ s) at why
+  pub fails_where : (n at : ℕ) (why : ParseFault) (s : Form) → n ≤ nesting_limit → WhereFault with_params names text tokens n at why → FreeCondition text tokens s → Never text tokens 24 s → Faulty text tokens (Where n ∷ s) at why
   fails_where n at why s high f free none = behind text tokens why (enter text tokens 20 n 24 (grammar.CondPart n ∷ []) s at (λ limit. refl) f.begins none) (fails (Condition n) (at + 1) why high f.in_where s free)

@@ -5,18 +5,19 @@ use Rattle.std.proofs.lemmas.Bool.Decides.{nat_tests}
 use Rattle.std.proofs.lemmas.List.{length-drop}
 use Rattle.std.proofs.lemmas.Option.{slice_get_past}
 use Rattle.feature_expr.specs.ExprGrammar.{sign_of_word, sign_at}
-use Rattle.feature_expr.specs.Names.{starts_word, is_name_of, same_word_as, refusal}
+use Rattle.word_tokens.specs.Words.{starts_word, is_name_of, same_word_as}
+use Rattle.feature_expr.specs.Names.{refusal}
 use Rattle.feature_expr.specs.Printing as exprs
-use Rattle.feature_expr.specs.Tokens.{is_white, blank_end, scanned, scanned_at, is_short_sign, is_long_sign, sign_length, StandAt}
-use Rattle.feature_expr.specs.declared.column_name.ColName.{ColName}
+use Rattle.word_tokens.specs.Tokens.{is_white, blank_end, scanned, scanned_at, is_short_sign, is_long_sign, sign_length, StandAt}
+use Rattle.values.specs.declared.column_name.ColName.{ColName}
 use Rattle.feature_expr.specs.declared.expr.Expr.{Expr}
-use Rattle.feature_expr.specs.declared.token.Token.{Token}
-use Rattle.feature_expr.specs.declared.token.TokenKind.{TokenKind}
-use Rattle.feature_expr.specs.declared.token.TokenKind.TheVariants as kind
-use Rattle.feature_expr.specs.declared.value.Value.TheVariants as value
+use Rattle.word_tokens.specs.declared.token.Token.{Token}
+use Rattle.word_tokens.specs.declared.token.TokenKind.{TokenKind}
+use Rattle.word_tokens.specs.declared.token.TokenKind.TheVariants as kind
+use Rattle.values.specs.declared.value.Value.TheVariants as value
 use Rattle.feature_expr.proofs.NameLaws.{reserved_false, named_word}
 use Rattle.feature_expr.proofs.PrintedLaws.{walks_text}
-use Rattle.feature_expr.proofs.StandLaws.{EndsWord, TokenIs, first_at, drop_past, token_here}
+use Rattle.word_tokens.proofs.StandLaws.{EndsWord, TokenIs, first_at, drop_past, token_here}
 use Rattle.feature_expr.proofs.WrittenLaws.{written_read}
 use Rattle.vra_syntax.specs.declared.cond.Op.{Op}
 use Rattle.vra_syntax.specs.declared.cond.Op.TheVariants as op
@@ -27,7 +28,7 @@ use Rattle.query_parser.specs.Parts.{IsColumn, plain_column, prefixed_column, Is
 use Rattle.query_printer.specs.Printing.{prefix_text, column_text, byte_text, truth_text, operand_text, op_text}
 use Rattle.query_parser.specs.declared.lexeme.Lexeme.{Lexeme}
 use Rattle.query_parser.specs.declared.lexeme.Lexeme.TheVariants as lexeme
-use Rattle.query_parser.specs.declared.lexeme.TheConstants.{NESTING_LIMIT}
+use Rattle.feature_expr.specs.Nesting.{nesting_limit}
 use Rattle.query_parser.proofs.Heres.{Here, word_here, space_here}
 use Rattle.query_parser.proofs.Printables.{PlainName, PlainPrefix, PlainColumn, PlainValue, plain_positive, plain_negative, plain_text, plain_truth, plain_param, PlainOperand, plain_column as plain_side, plain_value, PlainExpr}
 use Rattle.query_parser.proofs.NumberLaws.{positive_here, negative_here, parameter_here}
@@ -242,9 +243,9 @@ module _ (text : List ℕ) (tokens : List Token) where
 
   pub expression_here : (names : List (List ℕ)) → refusal names ≡ None → (n : ℕ) (expr : Expr) (k : ℕ) (post : List ℕ) → PlainExpr names n expr → EndsWord post → Here text tokens k (exprs.text_of names expr ++ post) → ExpressionHere names n k expr post
   expression_here names none n expr k post plain ends h =
-      let w = walks_text names text tokens NESTING_LIMIT none expr n k h.place post plain.0 plain.1 h.left ends h.stands in
+      let w = walks_text names text tokens nesting_limit none expr n k h.place post plain.0 plain.1 h.left ends h.stands in
       record {
         end = w.end;
-        spelled = λ or and. record { read = written_read names text tokens NESTING_LIMIT n k w.end expr w.written or and; spelled = w.written.spelled };
+        spelled = λ or and. record { read = written_read names text tokens nesting_limit n k w.end expr w.written or and; spelled = w.written.spelled };
         here = record { place = h.place + length (exprs.text_of names expr); left = drop_past text h.place (exprs.text_of names expr) post h.left; stands = w.stands };
       }

@@ -1,12 +1,13 @@
 -- Words, marks and choices that stand in a printed text.
 use Rattle.std.proofs.Common.{◌≡◌, ◌≢◌, ◌==◌, ℕ, ◌+◌, ◌<◌, List, [], ◌∷◌, ◌++◌, None, true, false, codes, refl, subst, arith}
 use Rattle.feature_expr.specs.ExprGrammar.{sign_at, sign_of_word}
-use Rattle.feature_expr.specs.Names.{is_word_of, refusal}
+use Rattle.word_tokens.specs.Words.{is_word_of}
+use Rattle.feature_expr.specs.Names.{refusal}
 use Rattle.feature_expr.specs.Printing as exprs
 use Rattle.feature_expr.specs.declared.expr.Expr.{Expr}
-use Rattle.feature_expr.specs.declared.token.Token.{Token}
-use Rattle.feature_expr.specs.declared.token.TokenKind.TheVariants as kind
-use Rattle.feature_expr.proofs.StandLaws.{EndsWord}
+use Rattle.word_tokens.specs.declared.token.Token.{Token}
+use Rattle.word_tokens.specs.declared.token.TokenKind.TheVariants as kind
+use Rattle.word_tokens.proofs.StandLaws.{EndsWord}
 use Rattle.vra_syntax.specs.declared.cond.Op.{Op}
 use Rattle.vra_syntax.specs.declared.cond.Op.TheVariants as op
 use Rattle.query_parser.proofs.ClauseLaws.{choice_is}
@@ -19,7 +20,7 @@ use Rattle.query_parser.specs.Parts.{IsChoice}
 use Rattle.query_printer.specs.Printing.{op_text}
 use Rattle.query_parser.specs.declared.lexeme.Lexeme.{Lexeme}
 use Rattle.query_parser.specs.declared.lexeme.Lexeme.TheVariants as lexeme
-use Rattle.query_parser.specs.declared.lexeme.TheConstants.{NESTING_LIMIT}
+use Rattle.feature_expr.specs.Nesting.{nesting_limit}
 
 -- a token isn't this one
 abbrev pub Isnt : Lexeme → Lexeme → Type 0
@@ -68,7 +69,7 @@ module _ (text : List ℕ) (tokens : List Token) where
     pub is : IsChoice names text tokens n k expr sides
     pub here : Here text tokens sides post
 
-  pub choice_here : (names : List (List ℕ)) → refusal names ≡ None → (n : ℕ) (expr : Expr) (k : ℕ) (post : List ℕ) → n + 1 < NESTING_LIMIT → PlainExpr names (n + 1) expr → Here text tokens k (codes "choice" ++ (32 ∷ 91 ∷ (exprs.text_of names expr ++ (93 ∷ 32 ∷ 40 ∷ post)))) → ChoiceHere names n k expr post
+  pub choice_here : (names : List (List ℕ)) → refusal names ≡ None → (n : ℕ) (expr : Expr) (k : ℕ) (post : List ℕ) → n + 1 < nesting_limit → PlainExpr names (n + 1) expr → Here text tokens k (codes "choice" ++ (32 ∷ 91 ∷ (exprs.text_of names expr ++ (93 ∷ 32 ∷ 40 ∷ post)))) → ChoiceHere names n k expr post
   choice_here names none n expr k post within plain h =
       let c = word_before k (codes "choice") (91 ∷ (exprs.text_of names expr ++ (93 ∷ 32 ∷ 40 ∷ post))) refl h in
       let s = mark (k + 1) 91 (exprs.text_of names expr ++ (93 ∷ 32 ∷ 40 ∷ post)) refl c.1 in
@@ -76,7 +77,7 @@ module _ (text : List ℕ) (tokens : List Token) where
       let e = mark_before x.end 93 (40 ∷ post) refl x.here in
       let o = mark (x.end + 1) 40 post refl e.1 in
       let chosen = x.spelled (not_or x.end (rw e.0 refl)) (not_and x.end (rw e.0 refl)) in
-      let below : n < NESTING_LIMIT = omega (arith, within) in
+      let below : n < nesting_limit = omega (arith, within) in
       record {
         sides = x.end + 1 + 1;
         is = choice_is names text tokens n k (n + 1) (k + 1 + 1) refl refl (rw c.0 refl) below (rw s.0 refl) expr x.end chosen (x.end + 1) (rw e.0 refl) refl (x.end + 1 + 1) refl (rw o.0 refl) within;

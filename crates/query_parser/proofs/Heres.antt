@@ -1,10 +1,10 @@
 -- What a text begins with from a place on, and which token stands there.
 use Rattle.std.proofs.Common.{◌≡◌, ℕ, ◌+◌, List, [], ◌∷◌, ◌++◌, drop, true, refl, arith}
-use Rattle.feature_expr.specs.Names.{is_word_of}
-use Rattle.feature_expr.specs.Tokens.{AreTokens}
-use Rattle.feature_expr.specs.declared.token.Token.{Token}
-use Rattle.feature_expr.specs.declared.token.TokenKind.TheVariants as kind
-use Rattle.feature_expr.proofs.StandLaws.{TokenIs, Stands, EndsWord, word_stands, space_stands, drop_past}
+use Rattle.word_tokens.specs.Words.{is_word_of}
+use Rattle.word_tokens.specs.Tokens.{AreTokens}
+use Rattle.word_tokens.specs.declared.token.Token.{Token}
+use Rattle.word_tokens.specs.declared.token.TokenKind.TheVariants as kind
+use Rattle.word_tokens.proofs.StandLaws.{TokenIs, Stands, EndsWord, word_stands, space_stands, drop_past}
 
 module _ (text : List ℕ) (tokens : List Token) where
   -- the tokens from one on stand from a place of the text on, where this is what is left of it

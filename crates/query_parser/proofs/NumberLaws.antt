@@ -7,12 +7,12 @@ use Rattle.std.proofs.lemmas.Bool.Decides.{nat_tests}
 use Rattle.std.proofs.lemmas.Fmt.{decimal_is_IsNumeral, first_decimal}
 use Rattle.std.proofs.lemmas.Str.{digit_value_digit}
 use Rattle.std.proofs.lemmas.Str.Parse.{digit_from_value}
-use Rattle.feature_expr.specs.Names.{continues_word, starts_word}
-use Rattle.feature_expr.specs.Tokens.{is_white, run_end, blank_end, number_of, integer_of, parameter_limit, parameter_of, scanned, integer_at, parameter_at, scanned_at}
-use Rattle.feature_expr.specs.declared.token.TokenKind.TheVariants as kind
-use Rattle.feature_expr.specs.declared.token.Token.{Token}
-use Rattle.feature_expr.proofs.BlankLaws.{blank_stop}
-use Rattle.feature_expr.proofs.StandLaws.{EndsWord, TokenIs, first_at, drop_past, slice_past, token_next, token_here}
+use Rattle.word_tokens.specs.Words.{continues_word, starts_word}
+use Rattle.word_tokens.specs.Tokens.{is_white, run_end, blank_end, number_of, integer_of, parameter_limit, parameter_of, scanned, integer_at, parameter_at, scanned_at}
+use Rattle.word_tokens.specs.declared.token.TokenKind.TheVariants as kind
+use Rattle.word_tokens.specs.declared.token.Token.{Token}
+use Rattle.word_tokens.proofs.BlankLaws.{blank_stop}
+use Rattle.word_tokens.proofs.StandLaws.{EndsWord, TokenIs, first_at, drop_past, slice_past, token_next, token_here}
 use Rattle.query_parser.proofs.Heres.{Here}
 
 -- a digit, and nothing else

@@ -1,7 +1,7 @@
 -- The reader's answers.
 use Rattle.std.proofs.Common.{Bool, ◌≡◌, ℕ, List, refl}
-use Rattle.feature_expr.specs.Tokens.{AreTokens}
-use Rattle.feature_expr.specs.declared.token.Token.{Token}
+use Rattle.word_tokens.specs.Tokens.{AreTokens}
+use Rattle.word_tokens.specs.declared.token.Token.{Token}
 use Rattle.vra_syntax.specs.declared.statement.Statement.{Statement}
 use Rattle.query_parser.specs.Statements.{AreStatements}
 use Rattle.query_parser.specs.Texts.{IsText, Refusal, IsRefusedText, placed_at}

@@ -1,13 +1,13 @@
 -- Going through the small parts of a statement: expressions, columns, operands, values and the heads of choices.
 use Rattle.std.proofs.Common.{Bool, true, false, ◌≡◌, ◌∙◌, sym, ◌<◌, ◌≤◌, ℕ, ◌+◌, List, [], ◌∷◌, ◌++◌, Some, Ok, Err, subst, inl, inr, refl, arith, nat_lt}
 use Rattle.std.proofs.lemmas.Bool.Decides.{nat_tests}
-use Rattle.feature_expr.specs.Grammar.{Terminal, Nonterminal, IsFree}
+use Rattle.word_tokens.specs.Grammar.{Terminal, Nonterminal, IsFree}
 use Rattle.feature_expr.specs.ExprGrammar.{Foreign, Outer, Disjunction, signs_of, IsRefused}
-use Rattle.feature_expr.specs.declared.column_name.ColName.{ColName}
+use Rattle.values.specs.declared.column_name.ColName.{ColName}
 use Rattle.feature_expr.specs.declared.expr.Expr.{Expr}
 use Rattle.feature_expr.specs.declared.parse.Fault.{Fault}
 use Rattle.feature_expr.specs.declared.parse.Fault.TheVariants as expr_fault
-use Rattle.feature_expr.specs.declared.token.Token.{Token}
+use Rattle.word_tokens.specs.declared.token.Token.{Token}
 use Rattle.vra_syntax.specs.declared.cond.Operand.{Operand}
 use Rattle.query_parser.specs.Faults.{ColumnFault, column_memory, no_column, no_base, OperandFault, operand_memory, in_column, no_value, ExpressionFault, ChoiceFault, choice_too_deep, no_square, in_chooser, square_unclosed, no_sides, sides_too_deep}
 use Rattle.query_parser.specs.Lexemes.{lexeme_at, name_at, value_at}
@@ -17,7 +17,7 @@ use Rattle.query_parser.specs.StatementGrammar.{takes, fitting, Form, outer, wit
 use Rattle.query_parser.specs.declared.fault.ParseFault.{ParseFault}
 use Rattle.query_parser.specs.declared.fault.ParseFault.TheVariants as fault
 use Rattle.query_parser.specs.declared.lexeme.Lexeme.TheVariants as lexeme
-use Rattle.query_parser.specs.declared.lexeme.TheConstants.{NESTING_LIMIT}
+use Rattle.feature_expr.specs.Nesting.{nesting_limit}
 use Rattle.query_parser.proofs.SignLaws.{or_takes, and_takes, name_takes, no_name_takes, IsValue, ValueFault, not_a_value, too_large, too_many, none_taken, value_takes, value_fault}
 use Rattle.query_parser.proofs.Walks.{apart, grammar, token_fits, Takes, Moves, chain, Excluded, Never, not_this, but_that, NoneOf, no_part, choose, pass, pass_to, Faulty, reaches, behind, stuck, missing, deep}
 
@@ -27,25 +27,25 @@ module _ (text : List ℕ) (tokens : List Token) where
 
   pub moves_expression : (names : List (List ℕ)) (nesting at end : ℕ) (expr : Expr) (s : Form) → IsExpression names text tokens nesting at expr end → Never text tokens 0 s → Never text tokens 1 s → Moves text tokens (Expression nesting ∷ s) at s end
   moves_expression names nesting at end expr s is no_or no_and = record {
-    order = (is.read (outer NESTING_LIMIT) (fitting text tokens) NESTING_LIMIT (omega arith)).order;
+    order = (is.read (outer nesting_limit) (fitting text tokens) nesting_limit (omega arith)).order;
     on = λ limit to h later m. (is.read (outer limit) (fitting text tokens) limit h).on s to (free_of_links nesting limit s no_or no_and) later m;
     back = λ limit to h m. (is.read (outer limit) (fitting text tokens) limit h).back s to m;
   }
 
-  expression_refused : (names : List (List ℕ)) (nesting at : ℕ) (inner : Fault) (s : Form) → nesting ≤ NESTING_LIMIT → IsRefused names text tokens NESTING_LIMIT (Disjunction nesting) at inner → Never text tokens 0 s → Never text tokens 1 s → Faulty text tokens (Expression nesting ∷ s) at (fault_of inner)
+  expression_refused : (names : List (List ℕ)) (nesting at : ℕ) (inner : Fault) (s : Form) → nesting ≤ nesting_limit → IsRefused names text tokens nesting_limit (Disjunction nesting) at inner → Never text tokens 0 s → Never text tokens 1 s → Faulty text tokens (Expression nesting ∷ s) at (fault_of inner)
   expression_refused names nesting at (expr_fault.Syntax place) s high r no_or no_and =
       λ limit h. let f = r (outer limit) (fitting text tokens) limit h in
       record { order = f.reaches.order; before = f.reaches.viable s; never = λ to later m. f.never s to (free_of_links nesting limit s no_or no_and) later m }
   expression_refused names nesting at (expr_fault.TooDeep place) s high r no_or no_and = (
-    let f = r.0 (outer NESTING_LIMIT) (fitting text tokens) in
-        record { order = f.reaches.order; before = f.reaches.viable s; never = λ to later m. f.never s to (free_of_links nesting NESTING_LIMIT s no_or no_and) later m },
+    let f = r.0 (outer nesting_limit) (fitting text tokens) in
+        record { order = f.reaches.order; before = f.reaches.viable s; never = λ to later m. f.never s to (free_of_links nesting nesting_limit s no_or no_and) later m },
     λ limit h. let reached = r.1 (outer limit) (fitting text tokens) limit h (omega (arith, h, high)) in record { order = reached.order; goes = reached.viable s },
   )
   expression_refused names nesting at (expr_fault.UnknownFeature place) s high r no_or no_and =
-      let reached = r.0 (outer NESTING_LIMIT) (fitting text tokens) in record { order = reached.order; goes = reached.viable s }
+      let reached = r.0 (outer nesting_limit) (fitting text tokens) in record { order = reached.order; goes = reached.viable s }
   expression_refused names nesting at expr_fault.Memory s high r no_or no_and = tt
 
-  pub faulty_expression : (names : List (List ℕ)) (nesting at : ℕ) (why : ParseFault) (s : Form) → nesting ≤ NESTING_LIMIT → ExpressionFault names text tokens nesting at why → Never text tokens 0 s → Never text tokens 1 s → Faulty text tokens (Expression nesting ∷ s) at why
+  pub faulty_expression : (names : List (List ℕ)) (nesting at : ℕ) (why : ParseFault) (s : Form) → nesting ≤ nesting_limit → ExpressionFault names text tokens nesting at why → Never text tokens 0 s → Never text tokens 1 s → Faulty text tokens (Expression nesting ∷ s) at why
   faulty_expression names nesting at why s high f no_or no_and = subst (λ w. Faulty text tokens (Expression nesting ∷ s) at w) (sym f.given) (expression_refused names nesting at f.inner s high f.refused no_or no_and)
 
   -- columns
@@ -85,7 +85,7 @@ module _ (text : List ℕ) (tokens : List Token) where
   but one other s at far is = but_that text tokens one other s at far is
 
   -- the form of a value, behind other forms
-  value_form : (part : ℕ) (s : Form) (at : ℕ) (sign : ℕ) (before : List Form) (after : List Form) → ((limit : ℕ) → NESTING_LIMIT ≤ limit → outer limit part 0 ≡ before ++ (Terminal (Foreign sign) ∷ []) ∷ after) → NoneOf text tokens s at before → NoneOf text tokens s at after → Takes text tokens sign at → Moves text tokens (Nonterminal (Outer part 0) ∷ s) at s (at + 1)
+  value_form : (part : ℕ) (s : Form) (at : ℕ) (sign : ℕ) (before : List Form) (after : List Form) → ((limit : ℕ) → nesting_limit ≤ limit → outer limit part 0 ≡ before ++ (Terminal (Foreign sign) ∷ []) ∷ after) → NoneOf text tokens s at before → NoneOf text tokens s at after → Takes text tokens sign at → Moves text tokens (Nonterminal (Outer part 0) ∷ s) at s (at + 1)
   value_form part s at sign before after is none none' fit = chain text tokens (choose text tokens part 0 before (Terminal (Foreign sign) ∷ []) after s at is none none') (pass text tokens sign s at fit)
 
   pub moves_value_form : (s : Form) (at : ℕ) → IsValue text tokens (lexeme_at text tokens at) → Moves text tokens (ValuePart ∷ s) at s (at + 1)
@@ -107,9 +107,9 @@ module _ (text : List ℕ) (tokens : List Token) where
   faulty_value_by : (s : Form) (at : ℕ) (why : ParseFault) → ValueFault text tokens (lexeme_at text tokens at) at why → Faulty text tokens (ValuePart ∷ s) at why
   faulty_value_by s at why (not_a_value none) =
       stuck text tokens (ValuePart ∷ s) at (no_part text tokens 31 0 (λ limit. VALUES) s at (λ limit. refl) (λ limit. (not_this text tokens 30 s at none.0, (not_this text tokens 31 s at none.1, (not_this text tokens 32 s at none.2, (not_this text tokens 3 s at none.3, (not_this text tokens 4 s at none.4, tt)))))))
-  faulty_value_by s at why (too_large i) = reaches text tokens NESTING_LIMIT (omega arith) (moves_value_form s at (inl i))
-  faulty_value_by s at why (too_many i) = reaches text tokens NESTING_LIMIT (omega arith) (moves_value_form s at (inr (inr (inl i))))
-  faulty_value_by s at why (none_taken i) = reaches text tokens NESTING_LIMIT (omega arith) (moves_value_form s at (inr (inr (inl i))))
+  faulty_value_by s at why (too_large i) = reaches text tokens nesting_limit (omega arith) (moves_value_form s at (inl i))
+  faulty_value_by s at why (too_many i) = reaches text tokens nesting_limit (omega arith) (moves_value_form s at (inr (inr (inl i))))
+  faulty_value_by s at why (none_taken i) = reaches text tokens nesting_limit (omega arith) (moves_value_form s at (inr (inr (inl i))))
 
   pub faulty_value : (with_params : Bool) (at : ℕ) (why : ParseFault) (s : Form) → value_at with_params text tokens at ≡ Err why → Faulty text tokens (ValuePart ∷ s) at why
   faulty_value with_params at why s is = faulty_value_by s at why (value_fault text tokens with_params at why is)
@@ -136,9 +136,9 @@ module _ (text : List ℕ) (tokens : List Token) where
   faulty_operand_by : (s : Form) (at : ℕ) (why : ParseFault) → takes 100 (lexeme_at text tokens at) ≡ false → ValueFault text tokens (lexeme_at text tokens at) at why → Faulty text tokens (OperandPart ∷ s) at why
   faulty_operand_by s at why other (not_a_value none) =
       stuck text tokens (OperandPart ∷ s) at (no_part text tokens 28 0 (λ limit. (ColumnPart ∷ []) ∷ VALUES) s at (λ limit. refl) (λ limit. (no_column_here s at other, (not_this text tokens 30 s at none.0, (not_this text tokens 31 s at none.1, (not_this text tokens 32 s at none.2, (not_this text tokens 3 s at none.3, (not_this text tokens 4 s at none.4, tt))))))))
-  faulty_operand_by s at why other (too_large i) = reaches text tokens NESTING_LIMIT (omega arith) (moves_operand_form s at other (inl i))
-  faulty_operand_by s at why other (too_many i) = reaches text tokens NESTING_LIMIT (omega arith) (moves_operand_form s at other (inr (inr (inl i))))
-  faulty_operand_by s at why other (none_taken i) = reaches text tokens NESTING_LIMIT (omega arith) (moves_operand_form s at other (inr (inr (inl i))))
+  faulty_operand_by s at why other (too_large i) = reaches text tokens nesting_limit (omega arith) (moves_operand_form s at other (inl i))
+  faulty_operand_by s at why other (too_many i) = reaches text tokens nesting_limit (omega arith) (moves_operand_form s at other (inr (inr (inl i))))
+  faulty_operand_by s at why other (none_taken i) = reaches text tokens nesting_limit (omega arith) (moves_operand_form s at other (inr (inr (inl i))))
 
   pub faulty_operand : (with_params : Bool) (at : ℕ) (why : ParseFault) (s : Form) → OperandFault with_params text tokens at why → Never text tokens 39 s → Faulty text tokens (OperandPart ∷ s) at why
   faulty_operand with_params at why s operand_memory free = tt
@@ -185,7 +185,7 @@ module _ (text : List ℕ) (tokens : List Token) where
       (chain text tokens (choose text tokens sides (n + 1) [] (Sign lexeme.Open ∷ body) [] s (is.close + 1) (λ limit h. has limit ∙ within_is (n + 1) limit ((Sign lexeme.Open ∷ body) ∷ []) (omega (arith, is.sides_within, h))) tt tt)
       (pass_to text tokens 33 (body ++ s) (is.close + 1) left (omega (arith, is.ends)) is.opens))
 
-  pub faulty_choice : (names : List (List ℕ)) (sides n at : ℕ) (why : ParseFault) (body : Form) (whole : Form) (s : Form) → HasSides sides n body → (Takes text tokens 14 at → NESTING_LIMIT ≤ n → Faulty text tokens whole at (fault.TooDeep at)) → (Takes text tokens 14 at → n < NESTING_LIMIT → Moves text tokens whole at (ChoiceHead sides n ++ s) at) → ChoiceFault names text tokens n at why → Faulty text tokens whole at why
+  pub faulty_choice : (names : List (List ℕ)) (sides n at : ℕ) (why : ParseFault) (body : Form) (whole : Form) (s : Form) → HasSides sides n body → (Takes text tokens 14 at → nesting_limit ≤ n → Faulty text tokens whole at (fault.TooDeep at)) → (Takes text tokens 14 at → n < nesting_limit → Moves text tokens whole at (ChoiceHead sides n ++ s) at) → ChoiceFault names text tokens n at why → Faulty text tokens whole at why
   faulty_choice names sides n at why body whole s has too_deep opened (choice_too_deep i low) = too_deep i low
   faulty_choice names sides n at why body whole s has too_deep opened (no_square i high other) =
       behind text tokens (fault.Syntax (at + 1)) (chain text tokens (opened i high) (to_square sides n at s i)) (missing text tokens 35 (Expression (n + 1) ∷ Sign lexeme.CloseSquare ∷ Nonterminal (Outer sides (n + 1)) ∷ s) (at + 1) other)
@@ -202,4 +202,4 @@ module _ (text : List ℕ) (tokens : List Token) where
       none_within false = tt
   faulty_choice names sides n at why body whole s has too_deep opened (sides_too_deep expr close i high j is k l low) =
       behind text tokens (fault.TooDeep (close + 1)) (chain text tokens (opened i high) (to_sides names sides n at close expr s i j is k))
-      (deep text tokens sides (n + 1) 33 [] [] [] body s (close + 1) low l (has NESTING_LIMIT ∙ within_none (n + 1) NESTING_LIMIT ((Sign lexeme.Open ∷ body) ∷ []) low) tt (λ limit h lower. has limit ∙ within_is (n + 1) limit ((Sign lexeme.Open ∷ body) ∷ []) lower) (omega (arith, high)))
+      (deep text tokens sides (n + 1) 33 [] [] [] body s (close + 1) low l (has nesting_limit ∙ within_none (n + 1) nesting_limit ((Sign lexeme.Open ∷ body) ∷ []) low) tt (λ limit h lower. has limit ∙ within_is (n + 1) limit ((Sign lexeme.Open ∷ body) ∷ []) lower) (omega (arith, high)))

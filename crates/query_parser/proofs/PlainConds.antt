@@ -1,13 +1,13 @@
 -- A condition that a text spells is plain.
 use Rattle.std.proofs.Common.{◌≡◌, ℕ, ◌+◌, ◌<◌, ◌≤◌, Bool, true, false, List, refl, arith}
-use Rattle.feature_expr.specs.Tokens.{AreTokens}
+use Rattle.word_tokens.specs.Tokens.{AreTokens}
 use Rattle.feature_expr.specs.declared.expr.Expr.{Expr}
-use Rattle.feature_expr.specs.declared.token.Token.{Token}
+use Rattle.word_tokens.specs.declared.token.Token.{Token}
 use Rattle.vra_syntax.specs.declared.cond.Cond.{Cond}
 use Rattle.vra_syntax.specs.declared.cond.Cond as cond
 use Rattle.query_parser.specs.Conditions.{CondPart, OrChain, Condition, AndChain, Conjunction, Negation, SpellsCond, one_conjunction, another_conjunction, whole_condition, one_negation, another_negation, whole_conjunction, not_condition, condition_in_brackets, choice_of_conditions, comparison, truth, falsehood, IsWhere, no_where, some_where}
 use Rattle.query_printer.specs.Printing.{takes_and, takes_or}
-use Rattle.query_parser.specs.declared.lexeme.TheConstants.{NESTING_LIMIT}
+use Rattle.feature_expr.specs.Nesting.{nesting_limit}
 use Rattle.query_printer.specs.declared.print_cond.CondPlace.{CondPlace}
 use Rattle.query_printer.specs.declared.print_cond.CondPlace.TheVariants as cplace
 use Rattle.query_parser.proofs.Printables.{PlainExpr, PlainCond, plain_comparison, plain_true, plain_false, plain_not, free_and, bound_and, free_or, bound_or, plain_cond_choice}
@@ -37,11 +37,11 @@ module _ (with_params : Bool) (names : List (List ℕ)) where
       plain_cond_choice n a expr left right (omega (arith, low, deep)) (expr_shallower names (m + 1) (n + 1) expr (omega (arith, low)) e) (cond_shallower (m + 2) (n + 2) cplace.Disjunct left (omega (arith, low)) p) (cond_shallower (m + 2) (n + 2) cplace.Disjunct right (omega (arith, low)) q)
 
   -- a chain at a place where it needs brackets or not
-  and_at : (n : ℕ) (at : CondPlace) (left right : Cond) (b : Bool) → takes_and at ≡ b → n < NESTING_LIMIT → Plain (n + 1) cplace.Conjunct left → Plain (n + 1) cplace.Operand right → Plain n at (cond.And left right)
+  and_at : (n : ℕ) (at : CondPlace) (left right : Cond) (b : Bool) → takes_and at ≡ b → n < nesting_limit → Plain (n + 1) cplace.Conjunct left → Plain (n + 1) cplace.Operand right → Plain n at (cond.And left right)
   and_at n at left right true is deep p q = free_and n at left right is (cond_shallower (n + 1) n cplace.Conjunct left (omega arith) p) (cond_shallower (n + 1) n cplace.Operand right (omega arith) q)
   and_at n at left right false is deep p q = bound_and n at left right is deep p q
 
-  or_at : (n : ℕ) (at : CondPlace) (left right : Cond) (b : Bool) → takes_or at ≡ b → n < NESTING_LIMIT → Plain (n + 1) cplace.Disjunct left → Plain (n + 1) cplace.Conjunct right → Plain n at (cond.Or left right)
+  or_at : (n : ℕ) (at : CondPlace) (left right : Cond) (b : Bool) → takes_or at ≡ b → n < nesting_limit → Plain (n + 1) cplace.Disjunct left → Plain (n + 1) cplace.Conjunct right → Plain n at (cond.Or left right)
   or_at n at left right true is deep p q = free_or n at left right is (cond_shallower (n + 1) n cplace.Disjunct left (omega arith) p) (cond_shallower (n + 1) n cplace.Conjunct right (omega arith) q)
   or_at n at left right false is deep p q = bound_or n at left right is deep p q
 
@@ -64,7 +64,7 @@ module _ (with_params : Bool) (names : List (List ℕ)) where
   disjunct_of n c p = cond_looser n cplace.Conjunct cplace.Disjunct c (λ h. refl) (λ h. refl) p
 
   -- in brackets it is an operand
-  operand_of : (n : ℕ) (c : Cond) → n < NESTING_LIMIT → Plain (n + 1) cplace.Disjunct c → Plain n cplace.Operand c
+  operand_of : (n : ℕ) (c : Cond) → n < nesting_limit → Plain (n + 1) cplace.Disjunct c → Plain n cplace.Operand c
   operand_of n x deep (plain_comparison m at left op right p q) = plain_comparison n cplace.Operand left op right p q
   operand_of n x deep (plain_true m at) = plain_true n cplace.Operand
   operand_of n x deep (plain_false m at) = plain_false n cplace.Operand

@@ -1,8 +1,8 @@
 -- The statements that a text spells are plain.
 use Rattle.std.proofs.Common.{◌≡◌, ℕ, ◌+◌, ◌<◌, Bool, List, [], ◌∷◌, ◌++◌, length, arith}
 use Rattle.std.proofs.lemmas.List.{length-append}
-use Rattle.feature_expr.specs.Tokens.{AreTokens}
-use Rattle.feature_expr.specs.declared.token.Token.{Token}
+use Rattle.word_tokens.specs.Tokens.{AreTokens}
+use Rattle.word_tokens.specs.declared.token.Token.{Token}
 use Rattle.vra_syntax.specs.declared.cond.Operand.{Operand}
 use Rattle.vra_syntax.specs.declared.statement.Statement.{Statement}
 use Rattle.vra_syntax.specs.declared.write.SetItem.{SetItem}

@@ -1,12 +1,12 @@
 -- What the tokens of the small parts of a statement spell is plain.
 use Rattle.std.proofs.Common.{◌≡◌, ℕ, ◌+◌, ◌<◌, ◌≤◌, Bool, false, List, [], ◌∷◌, ◌++◌, length, Option, sym, ap, ◌∙◌, arith}
 use Rattle.std.proofs.lemmas.List.{length-append}
-use Rattle.feature_expr.specs.Tokens.{AreTokens}
-use Rattle.feature_expr.specs.declared.token.Token.{Token}
+use Rattle.word_tokens.specs.Tokens.{AreTokens}
+use Rattle.word_tokens.specs.declared.token.Token.{Token}
 use Rattle.feature_expr.specs.Expressions.{mentions_step, mentions}
 use Rattle.feature_expr.specs.Printing.{nesting_step, text_nesting}
 use Rattle.feature_expr.specs.ExprGrammar.{Disjunction}
-use Rattle.feature_expr.specs.declared.column_name.ColName.{ColName}
+use Rattle.values.specs.declared.column_name.ColName.{ColName}
 use Rattle.feature_expr.specs.declared.expr.Expr.{Expr}
 use Rattle.feature_expr.specs.declared.expr.Expr as e
 use Rattle.feature_expr.specs.declared.expr.Expr.TheFolds.{fold-roll-Expr}
@@ -19,7 +19,7 @@ use Rattle.vra_syntax.specs.declared.cond.Operand.{Operand}
 use Rattle.vra_syntax.specs.declared.items.Item.{Item}
 use Rattle.vra_syntax.specs.declared.items.Items.{Items}
 use Rattle.query_parser.specs.Parts.{IsColumn, plain_column, prefixed_column, IsOperand, column_operand, value_operand, IsExpression, IsChoice, IsRename, no_rename, some_rename, IsItemWhen, no_item_when, some_item_when, IsWhen, no_when, some_when, IsItem, ItemsTo, one_item, another_item, AreItems, all_items, listed_items}
-use Rattle.query_parser.specs.declared.lexeme.TheConstants.{NESTING_LIMIT}
+use Rattle.feature_expr.specs.Nesting.{nesting_limit}
 use Rattle.query_parser.proofs.Printables as printed
 use Rattle.query_parser.proofs.Printables.{PlainColumn, PlainRename, PlainOperand, PlainExpr, PlainItemWhen, PlainItem, PlainItemList, PlainItems}
 use Rattle.query_parser.proofs.PlainTokens.{plain_name, plain_value_at}
@@ -42,16 +42,16 @@ applied {A} {B} f g x e = ap (λ (h : A → B). h x) e
 
 -- an expression in a text nests within the limit
 module _ (names : List (List ℕ)) (text : List ℕ) (tokens : List Token) where
-  pub plain_expression_at : (n at : ℕ) (expr : Expr) (end : ℕ) → n ≤ NESTING_LIMIT → IsExpression names text tokens n at expr end → PlainExpr names n expr
+  pub plain_expression_at : (n at : ℕ) (expr : Expr) (end : ℕ) → n ≤ nesting_limit → IsExpression names text tokens n at expr end → PlainExpr names n expr
   plain_expression_at n at expr end low is = (
     names_spelled names text tokens (Disjunction n) at expr end is.spelled,
-    part_nests_within names text tokens NESTING_LIMIT n at expr end low is.spelled (no_or_behind names text tokens NESTING_LIMIT n at end expr is.read is.spelled) (no_and_behind names text tokens NESTING_LIMIT n at end expr is.read is.spelled) is.read,
+    part_nests_within names text tokens nesting_limit n at expr end low is.spelled (no_or_behind names text tokens nesting_limit n at end expr is.read is.spelled) (no_and_behind names text tokens nesting_limit n at end expr is.read is.spelled) is.read,
   )
 
   pub plain_choice_at : (n at : ℕ) (expr : Expr) (sides : ℕ) → IsChoice names text tokens n at expr sides → PlainExpr names (n + 1) expr
   plain_choice_at n at expr sides is = plain_expression_at (n + 1) (at + 2) expr is.close (let low = is.within in omega (arith, low)) is.chooses
 
-  plain_item_when_at : (n at : ℕ) (expr : Option Expr) (end : ℕ) → n ≤ NESTING_LIMIT → IsItemWhen names text tokens n at expr end → PlainItemWhen names n expr
+  plain_item_when_at : (n at : ℕ) (expr : Option Expr) (end : ℕ) → n ≤ nesting_limit → IsItemWhen names text tokens n at expr end → PlainItemWhen names n expr
   plain_item_when_at n a x z low (no_item_when none) = tt
   plain_item_when_at n a x z low (some_item_when expr end is given) = plain_expression_at n (a + 1) expr end low given
 
@@ -69,7 +69,7 @@ module _ (names : List (List ℕ)) (text : List ℕ) (tokens : List Token) where
   plain_when_at a x z (some_when expr end is given) = plain_expression_at 0 (a + 1) expr end (omega arith) given
 
   -- items
-  plain_item_at : (n at : ℕ) (item : Item) (end : ℕ) → n ≤ NESTING_LIMIT → IsItem names text tokens n at item end → PlainItem names n item
+  plain_item_at : (n at : ℕ) (item : Item) (end : ℕ) → n ≤ nesting_limit → IsItem names text tokens n at item end → PlainItem names n item
   plain_item_at n at item end low is = record {
     column = plain_column_at text tokens at item.column is.behind is.named;
     rename = plain_rename_at text tokens is.behind item.rename is.last is.renamed;
@@ -80,11 +80,11 @@ module _ (names : List (List ℕ)) (text : List ℕ) (tokens : List Token) where
   push_item n [] item all plain = (plain, tt)
   push_item n (x ∷ before) item all plain = (all.0, push_item n before item all.1 plain)
 
-  plain_items_to : (n from : ℕ) (listed : List Item) (end : ℕ) → n ≤ NESTING_LIMIT → ItemsTo names text tokens n from listed end → (0 < length listed) × PlainItemList names n listed
+  plain_items_to : (n from : ℕ) (listed : List Item) (end : ℕ) → n ≤ nesting_limit → ItemsTo names text tokens n from listed end → (0 < length listed) × PlainItemList names n listed
   plain_items_to n from all z low (one_item item end is) = (omega arith, (plain_item_at n from item end low is, tt))
   plain_items_to n from all z low (another_item before at item end d comma is) =
       (rw length-append (omega arith), push_item n before item (plain_items_to n from before at low d).1 (plain_item_at n (at + 1) item end low is))
 
-  pub plain_items_at : (n at : ℕ) (kept : Items) (end : ℕ) → n ≤ NESTING_LIMIT → AreItems names text tokens n at kept end → PlainItems names n kept
+  pub plain_items_at : (n at : ℕ) (kept : Items) (end : ℕ) → n ≤ nesting_limit → AreItems names text tokens n at kept end → PlainItems names n kept
   plain_items_at n a kept z low (all_items star) = tt
   plain_items_at n a kept z low (listed_items listed end star d none) = plain_items_to n a listed end low d

@@ -1,8 +1,8 @@
 -- A query that a text spells is plain.
 use Rattle.std.proofs.Common.{◌≡◌, ℕ, ◌+◌, ◌<◌, ◌≤◌, Bool, true, false, List, [], ◌∷◌, Option, Some, None, refl, arith}
-use Rattle.feature_expr.specs.Tokens.{AreTokens}
+use Rattle.word_tokens.specs.Tokens.{AreTokens}
 use Rattle.feature_expr.specs.declared.expr.Expr.{Expr}
-use Rattle.feature_expr.specs.declared.token.Token.{Token}
+use Rattle.word_tokens.specs.declared.token.Token.{Token}
 use Rattle.vra_syntax.specs.declared.cond.Cond.{Cond}
 use Rattle.vra_syntax.specs.declared.items.Item.{Item}
 use Rattle.vra_syntax.specs.declared.items.Items.{Items}
@@ -11,7 +11,7 @@ use Rattle.vra_syntax.specs.declared.query.Query.{Query}
 use Rattle.vra_syntax.specs.declared.query.Query as query
 use Rattle.query_printer.specs.Printing.{takes_chain, takes_select, takes_join, takes_alias}
 use Rattle.query_parser.specs.Queries.{QueryPart, QueryChain, WholeQuery, Term, Simple, SourceChain, WholeSource, SourceTerm, SpellsQuery, one_term, union_term, except_term, whole_query, select_term, simple_term, table, empty_query, query_in_brackets, choice_of_queries, one_source, joined_source, whole_source, plain_source, source_with_alias}
-use Rattle.query_parser.specs.declared.lexeme.TheConstants.{NESTING_LIMIT}
+use Rattle.feature_expr.specs.Nesting.{nesting_limit}
 use Rattle.query_printer.specs.declared.print_cond.CondPlace.TheVariants as cplace
 use Rattle.query_printer.specs.declared.print_query.QueryPlace.{QueryPlace}
 use Rattle.query_printer.specs.declared.print_query.QueryPlace.TheVariants as qplace
@@ -67,16 +67,16 @@ module _ (with_params : Bool) (names : List (List ℕ)) where
       plain_query_choice n a expr left right (omega (arith, low, deep)) (expr_shallower names (m + 1) (n + 1) expr (omega (arith, low)) e) (query_shallower (m + 2) (n + 2) qplace.Whole left (omega (arith, low)) p) (query_shallower (m + 2) (n + 2) qplace.Whole right (omega (arith, low)) q)
 
   -- a select or a chain at a place where it needs brackets or not
-  select_at : (n : ℕ) (at : QueryPlace) (kept : Items) (source : Query) (c : Cond) (b : Bool) → takes_select at ≡ b → n < NESTING_LIMIT → PlainItems names (n + 1) kept → Plain (n + 1) qplace.Source source → Where (n + 1) c → Plain n at (query.Select kept source c)
+  select_at : (n : ℕ) (at : QueryPlace) (kept : Items) (source : Query) (c : Cond) (b : Bool) → takes_select at ≡ b → n < nesting_limit → PlainItems names (n + 1) kept → Plain (n + 1) qplace.Source source → Where (n + 1) c → Plain n at (query.Select kept source c)
   select_at n at kept source c true is deep i p w =
       free_select n at kept source c is (items_shallower names (n + 1) n kept (omega arith) i) (query_shallower (n + 1) n qplace.Source source (omega arith) p) (where_shallower (n + 1) n c (omega arith) w)
   select_at n at kept source c false is deep i p w = bound_select n at kept source c is deep i p w
 
-  union_at : (n : ℕ) (at : QueryPlace) (left right : Query) (b : Bool) → takes_chain at ≡ b → n < NESTING_LIMIT → Plain (n + 1) qplace.Whole left → Plain (n + 1) qplace.Term right → Plain n at (query.Union left right)
+  union_at : (n : ℕ) (at : QueryPlace) (left right : Query) (b : Bool) → takes_chain at ≡ b → n < nesting_limit → Plain (n + 1) qplace.Whole left → Plain (n + 1) qplace.Term right → Plain n at (query.Union left right)
   union_at n at left right true is deep p q = free_union n at left right is (query_shallower (n + 1) n qplace.Whole left (omega arith) p) (query_shallower (n + 1) n qplace.Term right (omega arith) q)
   union_at n at left right false is deep p q = bound_union n at left right is deep p q
 
-  except_at : (n : ℕ) (at : QueryPlace) (left right : Query) (b : Bool) → takes_chain at ≡ b → n < NESTING_LIMIT → Plain (n + 1) qplace.Whole left → Plain (n + 1) qplace.Term right → Plain n at (query.Except left right)
+  except_at : (n : ℕ) (at : QueryPlace) (left right : Query) (b : Bool) → takes_chain at ≡ b → n < nesting_limit → Plain (n + 1) qplace.Whole left → Plain (n + 1) qplace.Term right → Plain n at (query.Except left right)
   except_at n at left right true is deep p q = free_except n at left right is (query_shallower (n + 1) n qplace.Whole left (omega arith) p) (query_shallower (n + 1) n qplace.Term right (omega arith) q)
   except_at n at left right false is deep p q = bound_except n at left right is deep p q
 
@@ -117,7 +117,7 @@ module _ (with_params : Bool) (names : List (List ℕ)) where
   source_of n q p = query_looser n qplace.Joined qplace.Source q (record { selects = λ h. absurd (cc h); joins = λ h. refl; chains = λ h. absurd (cc h); aliases = λ h. refl }) p
 
   -- in brackets it is a simple query
-  named_of : (n : ℕ) (q : Query) → n < NESTING_LIMIT → Plain (n + 1) qplace.Whole q → Plain n qplace.Named q
+  named_of : (n : ℕ) (q : Query) → n < nesting_limit → Plain (n + 1) qplace.Whole q → Plain n qplace.Named q
   unfolding takes_select takes_join takes_chain takes_alias
   named_of n x deep (plain_table m at name p) = plain_table n qplace.Named name p
   named_of n x deep (plain_empty m at) = plain_empty n qplace.Named
@@ -135,13 +135,13 @@ module _ (with_params : Bool) (names : List (List ℕ)) where
 module _ (with_params : Bool) (names : List (List ℕ)) (text : List ℕ) (tokens : List Token) (are : AreTokens text tokens) where
   -- where each part may stand
   abbrev PlainPart : QueryPart → Query → Type 0
-  PlainPart (QueryChain n) q = n ≤ NESTING_LIMIT → PlainQuery with_params names n qplace.Whole q
-  PlainPart (WholeQuery n) q = n ≤ NESTING_LIMIT → PlainQuery with_params names n qplace.Whole q
-  PlainPart (Term n) q = n ≤ NESTING_LIMIT → PlainQuery with_params names n qplace.Term q
-  PlainPart (Simple n) q = n ≤ NESTING_LIMIT → PlainQuery with_params names n qplace.Named q
-  PlainPart (SourceChain n) q = n ≤ NESTING_LIMIT → PlainQuery with_params names n qplace.Source q
-  PlainPart (WholeSource n) q = n ≤ NESTING_LIMIT → PlainQuery with_params names n qplace.Source q
-  PlainPart (SourceTerm n) q = n ≤ NESTING_LIMIT → PlainQuery with_params names n qplace.Joined q
+  PlainPart (QueryChain n) q = n ≤ nesting_limit → PlainQuery with_params names n qplace.Whole q
+  PlainPart (WholeQuery n) q = n ≤ nesting_limit → PlainQuery with_params names n qplace.Whole q
+  PlainPart (Term n) q = n ≤ nesting_limit → PlainQuery with_params names n qplace.Term q
+  PlainPart (Simple n) q = n ≤ nesting_limit → PlainQuery with_params names n qplace.Named q
+  PlainPart (SourceChain n) q = n ≤ nesting_limit → PlainQuery with_params names n qplace.Source q
+  PlainPart (WholeSource n) q = n ≤ nesting_limit → PlainQuery with_params names n qplace.Source q
+  PlainPart (SourceTerm n) q = n ≤ nesting_limit → PlainQuery with_params names n qplace.Joined q
 
   plain_part : (part : QueryPart) (at : ℕ) (q : Query) (end : ℕ) → SpellsQuery with_params names text tokens part at q end → PlainPart part q
   unfolding takes_select takes_join takes_chain takes_alias
@@ -165,5 +165,5 @@ module _ (with_params : Bool) (names : List (List ℕ)) (text : List ℕ) (token
   plain_part p a x z (plain_source n at q end d none) = λ low. joined_of with_params names n q (plain_part (Simple n) at q end d low)
   plain_part p a x z (source_with_alias n at q name end d is named) = λ low. plain_alias n qplace.Joined q name refl (plain_part (Simple n) at q end d low) (plain_name text tokens (end + 1) name named)
 
-  pub plain_query_at : (n at : ℕ) (q : Query) (end : ℕ) → n ≤ NESTING_LIMIT → SpellsQuery with_params names text tokens (WholeQuery n) at q end → PlainQuery with_params names n qplace.Whole q
+  pub plain_query_at : (n at : ℕ) (q : Query) (end : ℕ) → n ≤ nesting_limit → SpellsQuery with_params names text tokens (WholeQuery n) at q end → PlainQuery with_params names n qplace.Whole q
   plain_query_at n at q end low d = plain_part (WholeQuery n) at q end d low

@@ -6,14 +6,14 @@ use Rattle.std.specs.List.{list_all, prefix_len, slice_range}
 use Rattle.std.specs.Str.{bytes_eq}
 use Rattle.std.proofs.lemmas.Bool.Decides.{nat_tests}
 use Rattle.std.proofs.lemmas.List.{length-map}
-use Rattle.feature_expr.specs.Names.{starts_word, continues_word, is_word_of, same_word_as, is_reserved_word, is_name_of}
-use Rattle.feature_expr.specs.Tokens.{closing_from, closing_at, unquoted, number_of, integer_of, parameter_limit, parameter_of, run_end, Scanned, quoted_at, sign_length, sign_at, scanned_at, blank_end, token_at, IfBad, StandAt, AreTokens, bytes_of}
-use Rattle.feature_expr.specs.declared.token.Token.{Token}
-use Rattle.feature_expr.specs.declared.token.TokenKind.{TokenKind}
-use Rattle.feature_expr.specs.declared.token.TokenKind.TheVariants as kind
-use Rattle.feature_expr.specs.declared.value.Value.TheVariants as value
+use Rattle.word_tokens.specs.Words.{starts_word, continues_word, is_word_of, same_word_as, is_reserved_word, is_name_of}
+use Rattle.word_tokens.specs.Tokens.{closing_from, closing_at, unquoted, number_of, integer_of, parameter_limit, parameter_of, run_end, Scanned, quoted_at, sign_length, sign_at, scanned_at, blank_end, token_at, IfBad, StandAt, AreTokens, bytes_of}
+use Rattle.word_tokens.specs.declared.token.Token.{Token}
+use Rattle.word_tokens.specs.declared.token.TokenKind.{TokenKind}
+use Rattle.word_tokens.specs.declared.token.TokenKind.TheVariants as kind
+use Rattle.values.specs.declared.value.Value.TheVariants as value
 use Rattle.feature_expr.proofs.NameLaws.{not_true}
-use Rattle.feature_expr.proofs.StandLaws.{both_true}
+use Rattle.word_tokens.proofs.StandLaws.{both_true}
 use Rattle.vra_syntax.specs.declared.cond.Operand.{Operand}
 use Rattle.vra_syntax.specs.declared.cond.Operand.TheVariants as operand
 use Rattle.query_parser.specs.Lexemes.{lexeme_of_name, lexeme_of_inner, lexeme_of_reserved, lexeme_of_word, is_unequal, lexeme_of_comparison, lexeme_of_mark, lexeme_of_kind, lexeme_of_token, lexeme_at, is_name, folded_of, name_at, value_of_kind, value_of, value_at}

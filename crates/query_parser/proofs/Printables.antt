@@ -2,12 +2,12 @@
 use Rattle.std.specs.Prelude.{Bool, true, false, not, ◌≡◌, ℕ, ◌+◌, ◌^◌, ◌<◌, ◌≤◌, ◌==◌, List, [], ◌∷◌, length, map, Option, Some, None, pos, negsuc}
 use Rattle.std.specs.Char.{to_ascii_lowercase}
 use Rattle.std.specs.List.{list_all}
-use Rattle.feature_expr.specs.Names.{is_name_of}
+use Rattle.word_tokens.specs.Words.{is_name_of}
 use Rattle.feature_expr.specs.Printing.{HasNames, text_nesting}
-use Rattle.feature_expr.specs.declared.column_name.ColName.{ColName}
+use Rattle.values.specs.declared.column_name.ColName.{ColName}
 use Rattle.feature_expr.specs.declared.expr.Expr.{Expr}
-use Rattle.feature_expr.specs.Tokens.{parameter_limit}
-use Rattle.feature_expr.specs.declared.value.Value.TheVariants as value
+use Rattle.word_tokens.specs.Tokens.{parameter_limit}
+use Rattle.values.specs.declared.value.Value.TheVariants as value
 use Rattle.vra_syntax.specs.declared.cond.Cond.{Cond}
 use Rattle.vra_syntax.specs.declared.cond.Cond as cond
 use Rattle.vra_syntax.specs.declared.cond.Op.{Op}
@@ -23,7 +23,7 @@ use Rattle.vra_syntax.specs.declared.statement.Statement.TheVariants as statemen
 use Rattle.vra_syntax.specs.declared.write.SetItem.{SetItem}
 use Rattle.vra_syntax.specs.declared.write.Write.TheVariants as write
 use Rattle.query_printer.specs.Printing.{takes_and, takes_or, takes_chain, takes_select, takes_join, takes_alias}
-use Rattle.query_parser.specs.declared.lexeme.TheConstants.{NESTING_LIMIT}
+use Rattle.feature_expr.specs.Nesting.{nesting_limit}
 use Rattle.query_printer.specs.declared.print_cond.CondPlace.{CondPlace}
 use Rattle.query_printer.specs.declared.print_cond.CondPlace.TheVariants as cplace
 use Rattle.query_printer.specs.declared.print_query.QueryPlace.{QueryPlace}
@@ -70,7 +70,7 @@ PlainValues with_params (v ∷ vs) = PlainValue with_params v × PlainValues wit
 
 -- an expression with so many brackets, `not` and choices open round it
 abbrev pub PlainExpr : List (List ℕ) → ℕ → Expr → Type 0
-PlainExpr names n expr = HasNames names expr × (n + text_nesting expr ≤ NESTING_LIMIT)
+PlainExpr names n expr = HasNames names expr × (n + text_nesting expr ≤ nesting_limit)
 
 abbrev pub PlainItemWhen : List (List ℕ) → ℕ → Option Expr → Type 0
 PlainItemWhen names n None = Unit {0}
@@ -94,26 +94,26 @@ pub data PlainCond (with_params : Bool) (names : List (List ℕ)) : ℕ → Cond
   plain_comparison : (n : ℕ) (at : CondPlace) (left : Operand) (op : Op) (right : Operand) → PlainOperand with_params left → PlainOperand with_params right → PlainCond with_params names n at (cond.Cmp left op right)
   plain_true : (n : ℕ) (at : CondPlace) → PlainCond with_params names n at cond.True
   plain_false : (n : ℕ) (at : CondPlace) → PlainCond with_params names n at cond.False
-  plain_not : (n : ℕ) (at : CondPlace) (inner : Cond) → n < NESTING_LIMIT → PlainCond with_params names (n + 1) cplace.Operand inner → PlainCond with_params names n at (cond.Not inner)
+  plain_not : (n : ℕ) (at : CondPlace) (inner : Cond) → n < nesting_limit → PlainCond with_params names (n + 1) cplace.Operand inner → PlainCond with_params names n at (cond.Not inner)
   free_and : (n : ℕ) (at : CondPlace) (left right : Cond) → takes_and at ≡ true → PlainCond with_params names n cplace.Conjunct left → PlainCond with_params names n cplace.Operand right → PlainCond with_params names n at (cond.And left right)
-  bound_and : (n : ℕ) (at : CondPlace) (left right : Cond) → takes_and at ≡ false → n < NESTING_LIMIT → PlainCond with_params names (n + 1) cplace.Conjunct left → PlainCond with_params names (n + 1) cplace.Operand right → PlainCond with_params names n at (cond.And left right)
+  bound_and : (n : ℕ) (at : CondPlace) (left right : Cond) → takes_and at ≡ false → n < nesting_limit → PlainCond with_params names (n + 1) cplace.Conjunct left → PlainCond with_params names (n + 1) cplace.Operand right → PlainCond with_params names n at (cond.And left right)
   free_or : (n : ℕ) (at : CondPlace) (left right : Cond) → takes_or at ≡ true → PlainCond with_params names n cplace.Disjunct left → PlainCond with_params names n cplace.Conjunct right → PlainCond with_params names n at (cond.Or left right)
-  bound_or : (n : ℕ) (at : CondPlace) (left right : Cond) → takes_or at ≡ false → n < NESTING_LIMIT → PlainCond with_params names (n + 1) cplace.Disjunct left → PlainCond with_params names (n + 1) cplace.Conjunct right → PlainCond with_params names n at (cond.Or left right)
-  plain_cond_choice : (n : ℕ) (at : CondPlace) (expr : Expr) (left right : Cond) → n + 1 < NESTING_LIMIT → PlainExpr names (n + 1) expr → PlainCond with_params names (n + 2) cplace.Disjunct left → PlainCond with_params names (n + 2) cplace.Disjunct right → PlainCond with_params names n at (cond.Choice expr left right)
+  bound_or : (n : ℕ) (at : CondPlace) (left right : Cond) → takes_or at ≡ false → n < nesting_limit → PlainCond with_params names (n + 1) cplace.Disjunct left → PlainCond with_params names (n + 1) cplace.Conjunct right → PlainCond with_params names n at (cond.Or left right)
+  plain_cond_choice : (n : ℕ) (at : CondPlace) (expr : Expr) (left right : Cond) → n + 1 < nesting_limit → PlainExpr names (n + 1) expr → PlainCond with_params names (n + 2) cplace.Disjunct left → PlainCond with_params names (n + 2) cplace.Disjunct right → PlainCond with_params names n at (cond.Choice expr left right)
 
 -- a query at a place
 pub data PlainQuery (with_params : Bool) (names : List (List ℕ)) : ℕ → QueryPlace → Query → Type 0 where
   plain_table : (n : ℕ) (at : QueryPlace) (name : List ℕ) → PlainName name → PlainQuery with_params names n at (query.Table name)
   plain_empty : (n : ℕ) (at : QueryPlace) → PlainQuery with_params names n at query.Empty
   free_select : (n : ℕ) (at : QueryPlace) (kept : Items) (source : Query) (c : Cond) → takes_select at ≡ true → PlainItems names n kept → PlainQuery with_params names n qplace.Source source → PlainCond with_params names n cplace.Disjunct c → PlainQuery with_params names n at (query.Select kept source c)
-  bound_select : (n : ℕ) (at : QueryPlace) (kept : Items) (source : Query) (c : Cond) → takes_select at ≡ false → n < NESTING_LIMIT → PlainItems names (n + 1) kept → PlainQuery with_params names (n + 1) qplace.Source source → PlainCond with_params names (n + 1) cplace.Disjunct c → PlainQuery with_params names n at (query.Select kept source c)
+  bound_select : (n : ℕ) (at : QueryPlace) (kept : Items) (source : Query) (c : Cond) → takes_select at ≡ false → n < nesting_limit → PlainItems names (n + 1) kept → PlainQuery with_params names (n + 1) qplace.Source source → PlainCond with_params names (n + 1) cplace.Disjunct c → PlainQuery with_params names n at (query.Select kept source c)
   plain_join : (n : ℕ) (at : QueryPlace) (left right : Query) (c : Cond) → takes_join at ≡ true → PlainQuery with_params names n qplace.Source left → PlainQuery with_params names n qplace.Joined right → PlainCond with_params names n cplace.Disjunct c → PlainQuery with_params names n at (query.Join left right c)
   free_union : (n : ℕ) (at : QueryPlace) (left right : Query) → takes_chain at ≡ true → PlainQuery with_params names n qplace.Whole left → PlainQuery with_params names n qplace.Term right → PlainQuery with_params names n at (query.Union left right)
-  bound_union : (n : ℕ) (at : QueryPlace) (left right : Query) → takes_chain at ≡ false → n < NESTING_LIMIT → PlainQuery with_params names (n + 1) qplace.Whole left → PlainQuery with_params names (n + 1) qplace.Term right → PlainQuery with_params names n at (query.Union left right)
+  bound_union : (n : ℕ) (at : QueryPlace) (left right : Query) → takes_chain at ≡ false → n < nesting_limit → PlainQuery with_params names (n + 1) qplace.Whole left → PlainQuery with_params names (n + 1) qplace.Term right → PlainQuery with_params names n at (query.Union left right)
   free_except : (n : ℕ) (at : QueryPlace) (left right : Query) → takes_chain at ≡ true → PlainQuery with_params names n qplace.Whole left → PlainQuery with_params names n qplace.Term right → PlainQuery with_params names n at (query.Except left right)
-  bound_except : (n : ℕ) (at : QueryPlace) (left right : Query) → takes_chain at ≡ false → n < NESTING_LIMIT → PlainQuery with_params names (n + 1) qplace.Whole left → PlainQuery with_params names (n + 1) qplace.Term right → PlainQuery with_params names n at (query.Except left right)
+  bound_except : (n : ℕ) (at : QueryPlace) (left right : Query) → takes_chain at ≡ false → n < nesting_limit → PlainQuery with_params names (n + 1) qplace.Whole left → PlainQuery with_params names (n + 1) qplace.Term right → PlainQuery with_params names n at (query.Except left right)
   plain_alias : (n : ℕ) (at : QueryPlace) (source : Query) (name : List ℕ) → takes_alias at ≡ true → PlainQuery with_params names n qplace.Named source → PlainName name → PlainQuery with_params names n at (query.Alias source name)
-  plain_query_choice : (n : ℕ) (at : QueryPlace) (expr : Expr) (left right : Query) → n + 1 < NESTING_LIMIT → PlainExpr names (n + 1) expr → PlainQuery with_params names (n + 2) qplace.Whole left → PlainQuery with_params names (n + 2) qplace.Whole right → PlainQuery with_params names n at (query.Choice expr left right)
+  plain_query_choice : (n : ℕ) (at : QueryPlace) (expr : Expr) (left right : Query) → n + 1 < nesting_limit → PlainExpr names (n + 1) expr → PlainQuery with_params names (n + 2) qplace.Whole left → PlainQuery with_params names (n + 2) qplace.Whole right → PlainQuery with_params names n at (query.Choice expr left right)
 
 abbrev pub PlainSetItems : Bool → List SetItem → Type 0
 PlainSetItems with_params [] = Unit {0}

@@ -2,8 +2,8 @@
 use Rattle.std.proofs.Common.{◌≡◌, ◌⊎◌, inl, inr, ℕ, ◌+◌, ◌<◌, List, ◌∷◌, ◌++◌, Some, None, Bool, true, false, codes, refl, sym, ap, ◌∙◌, subst}
 use Rattle.feature_expr.specs.Names.{refusal}
 use Rattle.feature_expr.specs.declared.expr.Expr.{Expr}
-use Rattle.feature_expr.specs.declared.token.Token.{Token}
-use Rattle.feature_expr.specs.declared.value.Value.TheVariants as value
+use Rattle.word_tokens.specs.declared.token.Token.{Token}
+use Rattle.values.specs.declared.value.Value.TheVariants as value
 use Rattle.vra_syntax.specs.declared.cond.Cond.{Cond}
 use Rattle.vra_syntax.specs.declared.cond.Cond as cond
 use Rattle.vra_syntax.specs.declared.cond.Op.{Op}
@@ -19,7 +19,7 @@ use Rattle.query_parser.specs.Lexemes.{lexeme_at, op_of}
 use Rattle.query_printer.specs.Printing.{operand_text, op_text, takes_and, takes_or, cond_at, cond_text, where_text}
 use Rattle.query_parser.specs.declared.lexeme.Lexeme.{Lexeme}
 use Rattle.query_parser.specs.declared.lexeme.Lexeme.TheVariants as lexeme
-use Rattle.query_parser.specs.declared.lexeme.TheConstants.{NESTING_LIMIT}
+use Rattle.feature_expr.specs.Nesting.{nesting_limit}
 use Rattle.query_printer.specs.declared.print_cond.CondPlace.{CondPlace}
 use Rattle.query_printer.specs.declared.print_cond.CondPlace.TheVariants as cplace
 
@@ -119,13 +119,13 @@ module _ (with_params : Bool) (names : List (List ℕ)) (none : refusal names �
       let a = operand_here text tokens with_params (operand.Literal (value.Bool false)) k post (plain_value (operand.Literal (value.Bool false)) (plain_truth false)) ends (reads_as text tokens k _ _ (printed_false names p post) h) in
       lift p n k cond.False post (record { end = a.end; spelled = λ e. falsehood n k a.end (a.spelled e.0) e.1; here = a.here })
 
-  walks_not : (n : ℕ) (p : CondPlace) (inner : Cond) → n < NESTING_LIMIT → WalksCond (n + 1) cplace.Operand inner → WalksCond n p (cond.Not inner)
+  walks_not : (n : ℕ) (p : CondPlace) (inner : Cond) → n < nesting_limit → WalksCond (n + 1) cplace.Operand inner → WalksCond n p (cond.Not inner)
   walks_not n p inner below f k post ends h =
       let w = word_before text tokens k (codes "not") (cond_at names inner cplace.Operand ++ post) refl (reads_as text tokens k _ _ (printed_not names inner p post) h) in
       let i = f (k + 1) post ends w.1 in
       lift p n k (cond.Not inner) post (record { end = i.end; spelled = λ e. not_condition n k inner i.end (rw w.0 refl) below (i.spelled e); here = i.here })
 
-  bracketed : (n k : ℕ) (c : Cond) (rest post : List ℕ) → n < NESTING_LIMIT → Here text tokens k (40 ∷ rest) → (Here text tokens (k + 1) rest → CondHere (n + 1) cplace.Disjunct (k + 1) c (41 ∷ post)) → CondHere n cplace.Operand k c post
+  bracketed : (n k : ℕ) (c : Cond) (rest post : List ℕ) → n < nesting_limit → Here text tokens k (40 ∷ rest) → (Here text tokens (k + 1) rest → CondHere (n + 1) cplace.Disjunct (k + 1) c (41 ∷ post)) → CondHere n cplace.Operand k c post
   bracketed n k c rest post below h walk =
       let o = mark text tokens k 40 rest refl h in
       let i = walk o.1 in
@@ -164,7 +164,7 @@ module _ (with_params : Bool) (names : List (List ℕ)) (none : refusal names �
   walks_and cplace.Disjunct n left right free f g k post ends h =
       first_or n k (cond.And left right) post (chain_and n left right f g k post ends (reads_as text tokens k _ _ (printed_and names left right cplace.Disjunct post free) h))
 
-  walks_bound_and : (p : CondPlace) (n : ℕ) (left right : Cond) → takes_and p ≡ false → n < NESTING_LIMIT → WalksCond (n + 1) cplace.Conjunct left → WalksCond (n + 1) cplace.Operand right → WalksCond n p (cond.And left right)
+  walks_bound_and : (p : CondPlace) (n : ℕ) (left right : Cond) → takes_and p ≡ false → n < nesting_limit → WalksCond (n + 1) cplace.Conjunct left → WalksCond (n + 1) cplace.Operand right → WalksCond n p (cond.And left right)
   walks_bound_and p n left right bound below f g k post ends h =
       lift p n k (cond.And left right) post (bracketed n k (cond.And left right) (and_with names left right (41 ∷ post)) post below (reads_as text tokens k _ _ (printed_and_bound names left right p post bound) h)
       (λ i. first_or (n + 1) (k + 1) (cond.And left right) (41 ∷ post) (chain_and (n + 1) left right f g (k + 1) (41 ∷ post) (refl, refl) i)))
@@ -174,12 +174,12 @@ module _ (with_params : Bool) (names : List (List ℕ)) (none : refusal names �
   walks_or cplace.Conjunct n left right free f g k post ends h = absurd (cc free)
   walks_or cplace.Disjunct n left right free f g k post ends h = chain_or n left right f g k post ends (reads_as text tokens k _ _ (printed_or names left right cplace.Disjunct post free) h)
 
-  walks_bound_or : (p : CondPlace) (n : ℕ) (left right : Cond) → takes_or p ≡ false → n < NESTING_LIMIT → WalksCond (n + 1) cplace.Disjunct left → WalksCond (n + 1) cplace.Conjunct right → WalksCond n p (cond.Or left right)
+  walks_bound_or : (p : CondPlace) (n : ℕ) (left right : Cond) → takes_or p ≡ false → n < nesting_limit → WalksCond (n + 1) cplace.Disjunct left → WalksCond (n + 1) cplace.Conjunct right → WalksCond n p (cond.Or left right)
   walks_bound_or p n left right bound below f g k post ends h =
       lift p n k (cond.Or left right) post (bracketed n k (cond.Or left right) (or_with names left right (41 ∷ post)) post below (reads_as text tokens k _ _ (printed_or_bound names left right p post bound) h)
       (λ i. chain_or (n + 1) left right f g (k + 1) (41 ∷ post) (refl, refl) i))
 
-  walks_choice : (p : CondPlace) (n : ℕ) (expr : Expr) (left right : Cond) → n + 1 < NESTING_LIMIT → PlainExpr names (n + 1) expr → WalksCond (n + 2) cplace.Disjunct left → WalksCond (n + 2) cplace.Disjunct right → WalksCond n p (cond.Choice expr left right)
+  walks_choice : (p : CondPlace) (n : ℕ) (expr : Expr) (left right : Cond) → n + 1 < nesting_limit → PlainExpr names (n + 1) expr → WalksCond (n + 2) cplace.Disjunct left → WalksCond (n + 2) cplace.Disjunct right → WalksCond n p (cond.Choice expr left right)
   walks_choice p n expr left right within plain f g k post ends h =
       let a = cond_at names left cplace.Disjunct in
       let b = cond_at names right cplace.Disjunct in

@@ -2,10 +2,10 @@
 use Rattle.std.proofs.Common.{◌≡◌, ◌⊎◌, inl, inr, ℕ, ◌+◌, List, [], ◌∷◌, ◌++◌, map, flat_map, Option, Some, None, true, false, codes, refl, subst, append_assoc, append-nil, arith}
 use Rattle.feature_expr.specs.Names.{refusal}
 use Rattle.feature_expr.specs.Printing as exprs
-use Rattle.feature_expr.specs.declared.column_name.ColName.{ColName}
+use Rattle.values.specs.declared.column_name.ColName.{ColName}
 use Rattle.feature_expr.specs.declared.expr.Expr.{Expr}
-use Rattle.feature_expr.specs.declared.token.Token.{Token}
-use Rattle.feature_expr.proofs.StandLaws.{EndsWord}
+use Rattle.word_tokens.specs.declared.token.Token.{Token}
+use Rattle.word_tokens.proofs.StandLaws.{EndsWord}
 use Rattle.vra_syntax.specs.declared.items.Item.{Item}
 use Rattle.vra_syntax.specs.declared.items.Items.{Items}
 use Rattle.vra_syntax.specs.declared.items.Items.TheVariants as items

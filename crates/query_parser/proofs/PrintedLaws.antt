@@ -2,10 +2,10 @@
 use Rattle.std.proofs.Common.{◌≡◌, ℕ, ◌+◌, List, [], ◌∷◌, ◌++◌, Some, None, Bool, codes, decimal, pos, refl, sym, ap, append-nil, arith}
 use Rattle.std.proofs.lemmas.Fmt.{decimal_digit}
 use Rattle.feature_expr.specs.Names.{refusal}
-use Rattle.feature_expr.specs.Tokens.{AreTokens}
-use Rattle.feature_expr.specs.declared.token.Token.{Token}
-use Rattle.feature_expr.specs.declared.token.TokenKind.TheVariants as kind
-use Rattle.feature_expr.specs.declared.value.Value.TheVariants as value
+use Rattle.word_tokens.specs.Tokens.{AreTokens}
+use Rattle.word_tokens.specs.declared.token.Token.{Token}
+use Rattle.word_tokens.specs.declared.token.TokenKind.TheVariants as kind
+use Rattle.values.specs.declared.value.Value.TheVariants as value
 use Rattle.vra_syntax.specs.declared.cond.Operand.TheVariants as operand
 use Rattle.vra_syntax.specs.declared.query.Query.{Query}
 use Rattle.vra_syntax.specs.declared.statement.Statement.{Statement}

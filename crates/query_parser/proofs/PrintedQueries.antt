@@ -2,7 +2,7 @@
 use Rattle.std.proofs.Common.{◌≡◌, ◌⊎◌, inl, inr, ℕ, ◌+◌, ◌<◌, List, ◌∷◌, ◌++◌, None, Bool, true, false, codes, refl, arith}
 use Rattle.feature_expr.specs.Names.{refusal}
 use Rattle.feature_expr.specs.declared.expr.Expr.{Expr}
-use Rattle.feature_expr.specs.declared.token.Token.{Token}
+use Rattle.word_tokens.specs.declared.token.Token.{Token}
 use Rattle.vra_syntax.specs.declared.cond.Cond.{Cond}
 use Rattle.vra_syntax.specs.declared.items.Items.{Items}
 use Rattle.vra_syntax.specs.declared.query.Query.{Query}
@@ -19,7 +19,7 @@ use Rattle.query_printer.specs.Printing.{cond_text, where_text, items_text, take
 use Rattle.query_parser.specs.Queries.{QueryPart, QueryChain, WholeQuery, Term, Simple, SourceChain, SourceTerm, SpellsQuery, one_term, union_term, except_term, whole_query, select_term, simple_term, table, empty_query, query_in_brackets, choice_of_queries, one_source, joined_source, whole_source, plain_source, source_with_alias}
 use Rattle.query_parser.specs.declared.lexeme.Lexeme.{Lexeme}
 use Rattle.query_parser.specs.declared.lexeme.Lexeme.TheVariants as lexeme
-use Rattle.query_parser.specs.declared.lexeme.TheConstants.{NESTING_LIMIT}
+use Rattle.feature_expr.specs.Nesting.{nesting_limit}
 use Rattle.query_printer.specs.declared.print_cond.CondPlace.TheVariants as cplace
 use Rattle.query_printer.specs.declared.print_query.QueryPlace.{QueryPlace}
 use Rattle.query_printer.specs.declared.print_query.QueryPlace.TheVariants as qplace
@@ -102,7 +102,7 @@ module _ (with_params : Bool) (names : List (List ℕ)) (none : refusal names �
       let m = word text tokens k (codes "empty") post refl ends.0 (reads_as text tokens k _ _ (printed_empty names p post) h) in
       lift p n k query.Empty post (record { end = k + 1; spelled = λ e. empty_query n k (rw m.0 refl); here = m.1 })
 
-  bracketed : (n k : ℕ) (q : Query) (rest post : List ℕ) → n < NESTING_LIMIT → Here text tokens k (40 ∷ rest) → (Here text tokens (k + 1) rest → QueryHere (n + 1) qplace.Whole (k + 1) q (41 ∷ post)) → QueryHere n qplace.Named k q post
+  bracketed : (n k : ℕ) (q : Query) (rest post : List ℕ) → n < nesting_limit → Here text tokens k (40 ∷ rest) → (Here text tokens (k + 1) rest → QueryHere (n + 1) qplace.Whole (k + 1) q (41 ∷ post)) → QueryHere n qplace.Named k q post
   bracketed n k q rest post below h walk =
       let o = mark text tokens k 40 rest refl h in
       let i = walk o.1 in
@@ -142,7 +142,7 @@ module _ (with_params : Bool) (names : List (List ℕ)) (none : refusal names �
   walks_select qplace.Joined n kept source c free plain f plain_c k post ends h = absurd (cc free)
   walks_select qplace.Named n kept source c free plain f plain_c k post ends h = absurd (cc free)
 
-  walks_bound_select : (p : QueryPlace) (n : ℕ) (kept : Items) (source : Query) (c : Cond) → takes_select p ≡ false → n < NESTING_LIMIT → PlainItems names (n + 1) kept → WalksQuery (n + 1) qplace.Source source → PlainCond with_params names (n + 1) cplace.Disjunct c → WalksQuery n p (query.Select kept source c)
+  walks_bound_select : (p : QueryPlace) (n : ℕ) (kept : Items) (source : Query) (c : Cond) → takes_select p ≡ false → n < nesting_limit → PlainItems names (n + 1) kept → WalksQuery (n + 1) qplace.Source source → PlainCond with_params names (n + 1) cplace.Disjunct c → WalksQuery n p (query.Select kept source c)
   walks_bound_select p n kept source c bound below plain f plain_c k post ends h =
       lift p n k (query.Select kept source c) post (bracketed n k (query.Select kept source c) (select_with names kept source c (41 ∷ post)) post below (reads_as text tokens k _ _ (printed_select_bound names kept source c p post bound) h)
       (λ i. first_term (n + 1) (k + 1) (query.Select kept source c) (41 ∷ post) (select_here (n + 1) kept source c plain f plain_c (k + 1) (41 ∷ post) (refl, refl) i)))
@@ -185,7 +185,7 @@ module _ (with_params : Bool) (names : List (List ℕ)) (none : refusal names �
   walks_union p n left right free f g k post ends h =
       at_whole p n k (query.Union left right) post free (union_here n left right f g k post ends (reads_as text tokens k _ _ (printed_union names left right p post free) h))
 
-  walks_bound_union : (p : QueryPlace) (n : ℕ) (left right : Query) → takes_chain p ≡ false → n < NESTING_LIMIT → WalksQuery (n + 1) qplace.Whole left → WalksQuery (n + 1) qplace.Term right → WalksQuery n p (query.Union left right)
+  walks_bound_union : (p : QueryPlace) (n : ℕ) (left right : Query) → takes_chain p ≡ false → n < nesting_limit → WalksQuery (n + 1) qplace.Whole left → WalksQuery (n + 1) qplace.Term right → WalksQuery n p (query.Union left right)
   walks_bound_union p n left right bound below f g k post ends h =
       lift p n k (query.Union left right) post (bracketed n k (query.Union left right) (chain_with names (codes "union") left right (41 ∷ post)) post below (reads_as text tokens k _ _ (printed_union_bound names left right p post bound) h)
       (λ i. union_here (n + 1) left right f g (k + 1) (41 ∷ post) (refl, refl) i))
@@ -194,7 +194,7 @@ module _ (with_params : Bool) (names : List (List ℕ)) (none : refusal names �
   walks_except p n left right free f g k post ends h =
       at_whole p n k (query.Except left right) post free (except_here n left right f g k post ends (reads_as text tokens k _ _ (printed_except names left right p post free) h))
 
-  walks_bound_except : (p : QueryPlace) (n : ℕ) (left right : Query) → takes_chain p ≡ false → n < NESTING_LIMIT → WalksQuery (n + 1) qplace.Whole left → WalksQuery (n + 1) qplace.Term right → WalksQuery n p (query.Except left right)
+  walks_bound_except : (p : QueryPlace) (n : ℕ) (left right : Query) → takes_chain p ≡ false → n < nesting_limit → WalksQuery (n + 1) qplace.Whole left → WalksQuery (n + 1) qplace.Term right → WalksQuery n p (query.Except left right)
   walks_bound_except p n left right bound below f g k post ends h =
       lift p n k (query.Except left right) post (bracketed n k (query.Except left right) (chain_with names (codes "except") left right (41 ∷ post)) post below (reads_as text tokens k _ _ (printed_except_bound names left right p post bound) h)
       (λ i. except_here (n + 1) left right f g (k + 1) (41 ∷ post) (refl, refl) i))
@@ -245,7 +245,7 @@ module _ (with_params : Bool) (names : List (List ℕ)) (none : refusal names �
   walks_alias qplace.Joined n source name free f plain k post ends h = alias_here n source name f plain k post ends (reads_as text tokens k _ _ (printed_alias names source name qplace.Joined post free) h)
   walks_alias qplace.Named n source name free f plain k post ends h = absurd (cc free)
 
-  walks_choice : (p : QueryPlace) (n : ℕ) (expr : Expr) (left right : Query) → n + 1 < NESTING_LIMIT → PlainExpr names (n + 1) expr → WalksQuery (n + 2) qplace.Whole left → WalksQuery (n + 2) qplace.Whole right → WalksQuery n p (query.Choice expr left right)
+  walks_choice : (p : QueryPlace) (n : ℕ) (expr : Expr) (left right : Query) → n + 1 < nesting_limit → PlainExpr names (n + 1) expr → WalksQuery (n + 2) qplace.Whole left → WalksQuery (n + 2) qplace.Whole right → WalksQuery n p (query.Choice expr left right)
   walks_choice p n expr left right within plain f g k post ends h =
       let a = query_at names left qplace.Whole in
       let b = query_at names right qplace.Whole in

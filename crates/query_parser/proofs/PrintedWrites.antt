@@ -7,7 +7,7 @@ use Rattle.feature_expr.specs.declared.expr.Expr as e
 use Rattle.feature_expr.specs.declared.expr.Expr.TheFolds.{ind-Expr}
 use Rattle.feature_expr.specs.declared.expr.Expr.TheOpen.{Expr-F}
 use Rattle.feature_expr.specs.declared.expr.Expr.TheVariants as x
-use Rattle.feature_expr.specs.declared.token.Token.{Token}
+use Rattle.word_tokens.specs.declared.token.Token.{Token}
 use Rattle.vra_syntax.specs.declared.cond.Cond.{Cond}
 use Rattle.vra_syntax.specs.declared.cond.Operand.{Operand}
 use Rattle.vra_syntax.specs.declared.statement.Statement.TheVariants as statement

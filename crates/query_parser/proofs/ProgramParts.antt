@@ -1,10 +1,10 @@
 -- What the small parts of a statement and its conditions spell is what their programs come to, and so is each fault.
 use Rattle.std.proofs.Common.{◌≡◌, ◌≢◌, ℕ, ◌+◌, ◌<◌, ◌≤◌, Bool, true, false, nat_lt, List, [], ◌∷◌, Option, Some, None, Result, Err, inl, inr, refl, arith}
 use Rattle.std.proofs.lemmas.Bool.Decides.{nat_tests}
-use Rattle.feature_expr.specs.declared.column_name.ColName.{ColName}
+use Rattle.values.specs.declared.column_name.ColName.{ColName}
 use Rattle.feature_expr.specs.declared.expr.Expr.{Expr}
-use Rattle.feature_expr.specs.declared.token.Token.{Token}
-use Rattle.feature_expr.specs.declared.value.Value.TheVariants as value
+use Rattle.word_tokens.specs.declared.token.Token.{Token}
+use Rattle.values.specs.declared.value.Value.TheVariants as value
 use Rattle.vra_syntax.specs.declared.cond.Cond.{Cond}
 use Rattle.vra_syntax.specs.declared.cond.Cond as cond
 use Rattle.vra_syntax.specs.declared.cond.Operand.{Operand}
@@ -22,15 +22,15 @@ use Rattle.query_parser.specs.Truths.{truth_in}
 use Rattle.query_parser.specs.declared.fault.ParseFault.{ParseFault}
 use Rattle.query_parser.specs.declared.fault.ParseFault.TheVariants as fault
 use Rattle.query_parser.specs.declared.lexeme.Lexeme.TheVariants as lexeme
-use Rattle.query_parser.specs.declared.lexeme.TheConstants.{NESTING_LIMIT}
+use Rattle.feature_expr.specs.Nesting.{nesting_limit}
 use Rattle.query_parser.proofs.Programs.{AColumn, AnOperand, AChoice, ARename, AnItemWhen, AWhen, AnItem, MoreItems, TheItems, ACondition, MoreOr, AConjunction, MoreAnd, ANegation, AWhere, Program, Ask, compared, behind_chooser, Runs, ends, asks, expresses, refuses}
 use Rattle.query_parser.proofs.SignLaws.{IsValue, name_takes, value_takes}
 use Rattle.query_parser.proofs.Walks.{apart, not_both}
 
-pub below : (n : ℕ) → n < NESTING_LIMIT → nat_lt n NESTING_LIMIT ≡ true
+pub below : (n : ℕ) → n < nesting_limit → nat_lt n nesting_limit ≡ true
 below n h = grind (arith, nat_tests)
 
-pub above : (n : ℕ) → NESTING_LIMIT ≤ n → nat_lt n NESTING_LIMIT ≡ false
+pub above : (n : ℕ) → nesting_limit ≤ n → nat_lt n nesting_limit ≡ false
 above n h = grind (arith, nat_tests)
 
 pub not_true : (b : Bool) → (b ≡ true → ⊥) → b ≡ false

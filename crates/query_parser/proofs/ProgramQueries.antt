@@ -1,6 +1,6 @@
 -- What queries spell is what their programs come to, and so is each fault.
 use Rattle.std.proofs.Common.{◌≡◌, ◌≢◌, ℕ, ◌+◌, Bool, true, false, List, Option, Some, None, Err, refl}
-use Rattle.feature_expr.specs.declared.token.Token.{Token}
+use Rattle.word_tokens.specs.declared.token.Token.{Token}
 use Rattle.vra_syntax.specs.declared.query.Query.{Query}
 use Rattle.query_parser.specs.Conditions.{Condition}
 use Rattle.query_parser.specs.Faults.{QueryFault, query_memory, in_first_term, in_union_term, in_except_term, in_items, no_from, in_source, in_select_where, in_simple_term, no_simple_query, query_too_deep, in_query_brackets, query_unclosed, in_query_choice, in_left_query, no_right_query, in_right_query, query_sides_unclosed, in_first_source, in_joined_source, no_on, in_on, in_source_term, no_alias}

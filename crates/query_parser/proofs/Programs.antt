@@ -1,10 +1,10 @@
 -- A text is read one way. Each part is a program that asks for its next part or is done with the whole text, and a
 -- program has one answer.
 use Rattle.std.proofs.Common.{◌≡◌, ◌≢◌, ℕ, ◌+◌, ◌==◌, ◌||◌, Bool, true, false, nat_lt, List, [], ◌∷◌, ◌++◌, length, Option, Some, None, Result, Ok, Err, refl}
-use Rattle.feature_expr.specs.declared.column_name.ColName.{ColName}
+use Rattle.values.specs.declared.column_name.ColName.{ColName}
 use Rattle.feature_expr.specs.declared.expr.Expr.{Expr}
 use Rattle.feature_expr.specs.declared.expr.Expr as e
-use Rattle.feature_expr.specs.declared.token.Token.{Token}
+use Rattle.word_tokens.specs.declared.token.Token.{Token}
 use Rattle.vra_syntax.specs.declared.cond.Cond.{Cond}
 use Rattle.vra_syntax.specs.declared.cond.Cond as cond
 use Rattle.vra_syntax.specs.declared.cond.Op.{Op}
@@ -28,7 +28,7 @@ use Rattle.query_parser.specs.declared.fault.ParseFault.{ParseFault}
 use Rattle.query_parser.specs.declared.fault.ParseFault.TheVariants as fault
 use Rattle.query_parser.specs.declared.lexeme.Lexeme.{Lexeme}
 use Rattle.query_parser.specs.declared.lexeme.Lexeme.TheVariants as lexeme
-use Rattle.query_parser.specs.declared.lexeme.TheConstants.{NESTING_LIMIT}
+use Rattle.feature_expr.specs.Nesting.{nesting_limit}
 use Rattle.query_parser.proofs.ExpressionLaws.{one_expression, one_fault, fault_or_expression}
 
 -- a part at a place, some with what was read of it so far
@@ -173,14 +173,14 @@ module _ (with_params : Bool) (names : List (List ℕ)) (text : List ℕ) (token
 
   -- from the bracket behind the expression of a choice to that before its sides
   abbrev pub behind_chooser : ℕ → (Expr → ℕ → Program) → Expr → ℕ → Program
-  behind_chooser n k expr close = need (is close lexeme.CloseSquare) close (need (is (close + 1) lexeme.Open) (close + 1) (level (nat_lt (n + 1) NESTING_LIMIT) (close + 1) (k expr (close + 2))))
+  behind_chooser n k expr close = need (is close lexeme.CloseSquare) close (need (is (close + 1) lexeme.Open) (close + 1) (level (nat_lt (n + 1) nesting_limit) (close + 1) (k expr (close + 2))))
 
   -- what a part asks for, and what goes on behind it
   abbrev pub body : (goal : Goal) → (Value goal → ℕ → Program) → Program
   body (AColumn at) k =
       named (name_at text tokens at) (λ first. choose (is (at + 1) lexeme.Dot) (named (name_at text tokens (at + 2)) (λ base. k (record { prefix = Some first; base = base }) (at + 3)) (Fails (fault.Syntax (at + 2)))) (k (record { prefix = None; base = first }) (at + 1))) (Fails (fault.Syntax at))
   body (AnOperand at) k = named (name_at text tokens at) (λ first. Ask (AColumn at) (λ column end. k (operand.Column column) end)) (valued (value_at with_params text tokens at) (λ value. k value (at + 1)))
-  body (AChoice n at) k = level (nat_lt n NESTING_LIMIT) at (need (is (at + 1) lexeme.OpenSquare) (at + 1) (AskExpression (n + 1) (at + 2) (behind_chooser n k)))
+  body (AChoice n at) k = level (nat_lt n nesting_limit) at (need (is (at + 1) lexeme.OpenSquare) (at + 1) (AskExpression (n + 1) (at + 2) (behind_chooser n k)))
   body (ARename at) k = choose (is at lexeme.As) (Ask (AColumn (at + 1)) (λ column end. k (Some column) end)) (k None at)
   body (AnItemWhen n at) k = choose (is at lexeme.When) (AskExpression n (at + 1) (λ expr end. k (Some expr) end)) (k None at)
   body (AWhen at) k = choose (is at lexeme.When) (AskExpression 0 (at + 1) k) (k e.True at)
@@ -193,8 +193,8 @@ module _ (with_params : Bool) (names : List (List ℕ)) (text : List ℕ) (token
   body (AConjunction n at) k = Ask (ANegation n at) (λ left end. Ask (MoreAnd n left end) k)
   body (MoreAnd n left at) k = choose (is at lexeme.And) (Ask (ANegation n (at + 1)) (λ right end. Ask (MoreAnd n (cond.And left right) end) k)) (k left at)
   body (ANegation n at) k =
-      choose (is at lexeme.Not) (level (nat_lt n NESTING_LIMIT) at (Ask (ANegation (n + 1) (at + 1)) (λ inner end. k (cond.Not inner) end)))
-      (choose (is at lexeme.Open) (level (nat_lt n NESTING_LIMIT) at (Ask (ACondition (n + 1) (at + 1)) (λ inner end. need (is end lexeme.Close) end (k inner (end + 1)))))
+      choose (is at lexeme.Not) (level (nat_lt n nesting_limit) at (Ask (ANegation (n + 1) (at + 1)) (λ inner end. k (cond.Not inner) end)))
+      (choose (is at lexeme.Open) (level (nat_lt n nesting_limit) at (Ask (ACondition (n + 1) (at + 1)) (λ inner end. need (is end lexeme.Close) end (k inner (end + 1)))))
       (choose (is at lexeme.Choice) (Ask (AChoice n at) (λ expr sides. Ask (ACondition (n + 2) sides) (λ left middle. need (is middle lexeme.Comma) middle (Ask (ACondition (n + 2) (middle + 1)) (λ right end. need (is end lexeme.Close) end (k (cond.Choice expr left right) (end + 1)))))))
       (Ask (AnOperand at) (λ left middle. compared (op_at text tokens middle) left middle k))))
   body (AWhere n at) k = choose (is at lexeme.Where) (Ask (ACondition n (at + 1)) k) (k cond.True at)
@@ -208,7 +208,7 @@ module _ (with_params : Bool) (names : List (List ℕ)) (text : List ℕ) (token
   body (ASimple n at) k =
       named (name_at text tokens at) (λ name. k (query.Table name) (at + 1))
       (choose (is at lexeme.Empty) (k query.Empty (at + 1))
-      (choose (is at lexeme.Open) (level (nat_lt n NESTING_LIMIT) at (Ask (AQuery (n + 1) (at + 1)) (λ inner end. need (is end lexeme.Close) end (k inner (end + 1)))))
+      (choose (is at lexeme.Open) (level (nat_lt n nesting_limit) at (Ask (AQuery (n + 1) (at + 1)) (λ inner end. need (is end lexeme.Close) end (k inner (end + 1)))))
       (choose (is at lexeme.Choice) (Ask (AChoice n at) (λ expr sides. Ask (AQuery (n + 2) sides) (λ left middle. need (is middle lexeme.Comma) middle (Ask (AQuery (n + 2) (middle + 1)) (λ right end. need (is end lexeme.Close) end (k (query.Choice expr left right) (end + 1)))))))
       (Fails (fault.Syntax at)))))
   body (ASource n at) k = Ask (ASourceTerm n at) (λ left end. Ask (MoreJoins n left end) k)

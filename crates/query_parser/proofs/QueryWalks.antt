@@ -1,11 +1,11 @@
 -- Going through a query.
 use Rattle.std.proofs.Common.{Bool, true, false, ◌≡◌, ◌<◌, ◌≤◌, ℕ, ◌+◌, List, [], ◌∷◌, ◌++◌, Option, Some, None, refl, arith, nat_lt}
 use Rattle.std.proofs.lemmas.Bool.Decides.{nat_tests}
-use Rattle.feature_expr.specs.Grammar.{Terminal, Nonterminal}
+use Rattle.word_tokens.specs.Grammar.{Terminal, Nonterminal}
 use Rattle.feature_expr.specs.ExprGrammar.{Foreign, Outer}
-use Rattle.feature_expr.specs.declared.column_name.ColName.{ColName}
+use Rattle.values.specs.declared.column_name.ColName.{ColName}
 use Rattle.feature_expr.specs.declared.expr.Expr.{Expr}
-use Rattle.feature_expr.specs.declared.token.Token.{Token}
+use Rattle.word_tokens.specs.declared.token.Token.{Token}
 use Rattle.vra_syntax.specs.declared.items.Item.{Item}
 use Rattle.vra_syntax.specs.declared.items.Items.{Items}
 use Rattle.vra_syntax.specs.declared.query.Query.{Query}
@@ -19,7 +19,7 @@ use Rattle.query_parser.specs.StatementGrammar.{Form, outer, within, Sign, NAME,
 use Rattle.query_parser.specs.declared.fault.ParseFault.{ParseFault}
 use Rattle.query_parser.specs.declared.fault.ParseFault.TheVariants as fault
 use Rattle.query_parser.specs.declared.lexeme.Lexeme.TheVariants as lexeme
-use Rattle.query_parser.specs.declared.lexeme.TheConstants.{NESTING_LIMIT}
+use Rattle.feature_expr.specs.Nesting.{nesting_limit}
 use Rattle.query_parser.proofs.SignLaws.{name_takes, no_name_takes}
 use Rattle.query_parser.proofs.Walks.{apart, Takes, Moves, chain, Excluded, Never, not_this, NoneOf, no_part, choose, choose_by, pass, pass_to, Faulty, behind, stuck, missing, deep}
 use Rattle.query_parser.proofs.PartWalks.{but, never_column, moves_column, faulty_column, moves_expression, faulty_expression, ChoiceHead, HasSides, moves_choice, faulty_choice}
@@ -189,14 +189,14 @@ module _ (names : List (List ℕ)) (text : List ℕ) (tokens : List Token) where
   reads_when at end expr s (no_when other) a b c = skip_when text tokens 0 at s other
   reads_when at end expr s (some_when e last i is) a b c = chain text tokens (enter_when text tokens 0 at s i a) (moves_expression text tokens names 0 (at + 1) end expr s is b c)
 
-  pub fails_when : (n at : ℕ) (why : ParseFault) (s : Form) → n ≤ NESTING_LIMIT → WhenFault names text tokens n at why → Never text tokens 23 s → Never text tokens 0 s → Never text tokens 1 s → Faulty text tokens (When n ∷ s) at why
+  pub fails_when : (n at : ℕ) (why : ParseFault) (s : Form) → n ≤ nesting_limit → WhenFault names text tokens n at why → Never text tokens 23 s → Never text tokens 0 s → Never text tokens 1 s → Faulty text tokens (When n ∷ s) at why
   fails_when n at why s high f a b c = behind text tokens why (enter_when text tokens n at s f.begins a) (faulty_expression text tokens names n (at + 1) why s high f.in_when b c)
 
   reads_item : (n at end : ℕ) (item : Item) (s : Form) → IsItem names text tokens n at item end → FreeItem text tokens s → Moves text tokens (ItemPart n ∷ s) at s end
   reads_item n at end item s is free =
       chain text tokens (to_rename text tokens n at is.behind item.column s is.named free) (chain text tokens (reads_rename text tokens n is.behind is.last item.rename s is.renamed free) (reads_item_when n is.last end item.cond s is.condition free))
 
-  fails_item : (n at : ℕ) (why : ParseFault) (s : Form) → n ≤ NESTING_LIMIT → ItemFault names text tokens n at why → FreeItem text tokens s → Faulty text tokens (ItemPart n ∷ s) at why
+  fails_item : (n at : ℕ) (why : ParseFault) (s : Form) → n ≤ nesting_limit → ItemFault names text tokens n at why → FreeItem text tokens s → Faulty text tokens (ItemPart n ∷ s) at why
   fails_item n at why s high (in_item_column w f) free = behind text tokens why (open_item text tokens n s at) (faulty_column text tokens at why (Rename ∷ When n ∷ s) f (dot_behind_column text tokens n s free))
   fails_item n at why s high (in_rename column end w is i f) free =
       behind text tokens why (chain text tokens (to_rename text tokens n at end column s is free) (enter_rename text tokens n end s i free)) (faulty_column text tokens (end + 1) why (When n ∷ s) f (never_when text tokens 39 n s refl free.dot_free))
@@ -224,7 +224,7 @@ module _ (names : List (List ℕ)) (text : List ℕ) (tokens : List Token) where
   reads_items n at end items s (listed_items listed last other is no_comma) =
       chain text tokens (open_items n at (Sign lexeme.From ∷ s) other) (chain text tokens (reads_items_to n at listed end s is) (skip text tokens 13 n 37 (ItemPart n ∷ MoreItems n ∷ []) (Sign lexeme.From ∷ s) end (λ limit. refl) no_comma))
 
-  fails_items : (n at : ℕ) (why : ParseFault) (s : Form) → n ≤ NESTING_LIMIT → ItemsFault names text tokens n at why → Faulty text tokens (ItemsPart n ∷ Sign lexeme.From ∷ s) at why
+  fails_items : (n at : ℕ) (why : ParseFault) (s : Form) → n ≤ nesting_limit → ItemsFault names text tokens n at why → Faulty text tokens (ItemsPart n ∷ Sign lexeme.From ∷ s) at why
   fails_items n at why s high items_memory = tt
   fails_items n at why s high (in_first_item w other f) =
       behind text tokens why (open_items n at (Sign lexeme.From ∷ s) other) (fails_item n at why (MoreItems n ∷ Sign lexeme.From ∷ s) high f (item_behind text tokens n s))
@@ -282,14 +282,14 @@ module _ (with_params : Bool) (names : List (List ℕ)) (text : List ℕ) (token
   simple_begins n at q end s (choice_of_queries m from expr sides left right middle last is l comma r close) = but text tokens 14 12 s at refl is.begins
 
   -- a query in brackets
-  into_query_brackets : (n at : ℕ) (s : Form) → n < NESTING_LIMIT → Takes text tokens 33 at → Moves text tokens (Simple n ∷ s) at (QueryPart (n + 1) ∷ Sign lexeme.Close ∷ s) (at + 1)
+  into_query_brackets : (n at : ℕ) (s : Form) → n < nesting_limit → Takes text tokens 33 at → Moves text tokens (Simple n ∷ s) at (QueryPart (n + 1) ∷ Sign lexeme.Close ∷ s) (at + 1)
   into_query_brackets n at s low i =
       chain text tokens (choose text tokens 9 n (SIMPLE text tokens) (Sign lexeme.Open ∷ QueryPart (n + 1) ∷ Sign lexeme.Close ∷ []) (ChoiceHead text tokens 10 n ∷ []) s at (λ limit h. simple_forms text tokens n limit (omega (arith, low, h)))
       (but text tokens 33 100 s at refl i, (but text tokens 33 13 s at refl i, tt))
       (but text tokens 33 14 (Sign lexeme.OpenSquare ∷ Expression (n + 1) ∷ Sign lexeme.CloseSquare ∷ Nonterminal (Outer 10 (n + 1)) ∷ s) at refl i, tt))
       (pass text tokens 33 (QueryPart (n + 1) ∷ Sign lexeme.Close ∷ s) at i)
 
-  into_query_choice : (n at : ℕ) (s : Form) → n < NESTING_LIMIT → Takes text tokens 14 at → Moves text tokens (Simple n ∷ s) at (ChoiceHead text tokens 10 n ++ s) at
+  into_query_choice : (n at : ℕ) (s : Form) → n < nesting_limit → Takes text tokens 14 at → Moves text tokens (Simple n ∷ s) at (ChoiceHead text tokens 10 n ++ s) at
   into_query_choice n at s low i =
       choose text tokens 9 n (SIMPLE text tokens ++ (Sign lexeme.Open ∷ QueryPart (n + 1) ∷ Sign lexeme.Close ∷ []) ∷ []) (ChoiceHead text tokens 10 n) [] s at (λ limit h. simple_forms text tokens n limit (omega (arith, low, h)))
       (but text tokens 14 100 s at refl i, (but text tokens 14 13 s at refl i, (but text tokens 14 33 (QueryPart (n + 1) ∷ Sign lexeme.Close ∷ s) at refl i, tt))) tt
@@ -396,13 +396,13 @@ module _ (with_params : Bool) (names : List (List ℕ)) (text : List ℕ) (token
       nested true = (not_this text tokens 33 (QueryPart (n + 1) ∷ Sign lexeme.Close ∷ s) at b, (not_this text tokens 14 (Sign lexeme.OpenSquare ∷ Expression (n + 1) ∷ Sign lexeme.CloseSquare ∷ Nonterminal (Outer 10 (n + 1)) ∷ s) at c, tt))
       nested false = tt
 
-  deep_query : (n at : ℕ) (s : Form) → n ≤ NESTING_LIMIT → NESTING_LIMIT ≤ n → Takes text tokens 33 at → Faulty text tokens (Simple n ∷ s) at (fault.TooDeep at)
+  deep_query : (n at : ℕ) (s : Form) → n ≤ nesting_limit → nesting_limit ≤ n → Takes text tokens 33 at → Faulty text tokens (Simple n ∷ s) at (fault.TooDeep at)
   deep_query n at s high low i =
-      deep text tokens 9 n 33 (SIMPLE text tokens) (SIMPLE text tokens) (ChoiceHead text tokens 10 n ∷ []) (QueryPart (n + 1) ∷ Sign lexeme.Close ∷ []) s at low i (flat_forms text tokens n NESTING_LIMIT low) (but text tokens 33 100 s at refl i, (but text tokens 33 13 s at refl i, tt)) (λ limit h lower. simple_forms text tokens n limit lower) high
+      deep text tokens 9 n 33 (SIMPLE text tokens) (SIMPLE text tokens) (ChoiceHead text tokens 10 n ∷ []) (QueryPart (n + 1) ∷ Sign lexeme.Close ∷ []) s at low i (flat_forms text tokens n nesting_limit low) (but text tokens 33 100 s at refl i, (but text tokens 33 13 s at refl i, tt)) (λ limit h lower. simple_forms text tokens n limit lower) high
 
-  deep_choice : (n at : ℕ) (s : Form) → n ≤ NESTING_LIMIT → NESTING_LIMIT ≤ n → Takes text tokens 14 at → Faulty text tokens (Simple n ∷ s) at (fault.TooDeep at)
+  deep_choice : (n at : ℕ) (s : Form) → n ≤ nesting_limit → nesting_limit ≤ n → Takes text tokens 14 at → Faulty text tokens (Simple n ∷ s) at (fault.TooDeep at)
   deep_choice n at s high low i =
-      deep text tokens 9 n 14 (SIMPLE text tokens) (SIMPLE text tokens ++ (Sign lexeme.Open ∷ QueryPart (n + 1) ∷ Sign lexeme.Close ∷ []) ∷ []) [] (Sign lexeme.OpenSquare ∷ Expression (n + 1) ∷ Sign lexeme.CloseSquare ∷ Nonterminal (Outer 10 (n + 1)) ∷ []) s at low i (flat_forms text tokens n NESTING_LIMIT low) (but text tokens 14 100 s at refl i, (but text tokens 14 13 s at refl i, tt)) (λ limit h lower. simple_forms text tokens n limit lower) high
+      deep text tokens 9 n 14 (SIMPLE text tokens) (SIMPLE text tokens ++ (Sign lexeme.Open ∷ QueryPart (n + 1) ∷ Sign lexeme.Close ∷ []) ∷ []) [] (Sign lexeme.OpenSquare ∷ Expression (n + 1) ∷ Sign lexeme.CloseSquare ∷ Nonterminal (Outer 10 (n + 1)) ∷ []) s at low i (flat_forms text tokens n nesting_limit low) (but text tokens 14 100 s at refl i, (but text tokens 14 13 s at refl i, tt)) (λ limit h lower. simple_forms text tokens n limit lower) high
 
   past_left_query : (n at sides middle : ℕ) (expr : Expr) (left : Query) (s : Form) → IsChoice names text tokens n at expr sides → SpellsQuery with_params names text tokens (WholeQuery (n + 2)) sides left middle → Moves text tokens (Simple n ∷ s) at (Sign lexeme.Comma ∷ QueryPart (n + 2) ∷ Sign lexeme.Close ∷ s) middle
   past_left_query n at sides middle expr left s is l = chain text tokens (to_left_query n at sides expr s is) (reads_query (WholeQuery (n + 2)) sides left middle l (Sign lexeme.Comma ∷ QueryPart (n + 2) ∷ Sign lexeme.Close ∷ s) (free_query_comma (QueryPart (n + 2) ∷ Sign lexeme.Close ∷ s)))
@@ -417,7 +417,7 @@ module _ (with_params : Bool) (names : List (List ℕ)) (text : List ℕ) (token
   to_on : (n at middle on : ℕ) (left right : Query) (s : Form) → SpellsQuery with_params names text tokens (SourceChain n) at left middle → Takes text tokens 19 middle → SpellsQuery with_params names text tokens (spelled.SourceTerm n) (middle + 1) right on → FreeSource text tokens s → Moves text tokens (SourcePart n ∷ s) at (Sign lexeme.On ∷ CondPart n ∷ MoreSource n ∷ s) on
   to_on n at middle on left right s l i r free = chain text tokens (to_joined n at middle left s l i free) (reads_query (spelled.SourceTerm n) (middle + 1) right on r (Sign lexeme.On ∷ CondPart n ∷ MoreSource n ∷ s) (free_on (CondPart n ∷ MoreSource n ∷ s)))
 
-  pub fails_query : (part : spelled.QueryPart) (at : ℕ) (why : ParseFault) → query_nesting part ≤ NESTING_LIMIT → QueryFault with_params names text tokens part at why → FailsQuery part at why
+  pub fails_query : (part : spelled.QueryPart) (at : ℕ) (why : ParseFault) → query_nesting part ≤ nesting_limit → QueryFault with_params names text tokens part at why → FailsQuery part at why
   fails_query part at why high (query_memory p from) = no_query_memory part at
   fails_query part at why high (in_first_term n from w f) = λ s free. behind text tokens why (open_query n at s) (fails_query (spelled.Term n) at why high f (MoreQuery n ∷ s) (term_behind text tokens n s free))
   fails_query part at why high (in_union_term n from left middle w l i f) =

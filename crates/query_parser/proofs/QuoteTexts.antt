@@ -3,10 +3,10 @@ use Rattle.std.proofs.Common.{◌≡◌, ℕ, ◌+◌, ◌-◌, ◌==◌, Bool, 
 use Rattle.std.specs.List.{list_all}
 use Rattle.std.proofs.lemmas.Bool.Decides.{nat_tests}
 use Rattle.std.proofs.lemmas.List.{length-append}
-use Rattle.feature_expr.specs.Tokens.{closing_from, closing_at, unquoted, scanned, scanned_at}
-use Rattle.feature_expr.specs.declared.token.Token.{Token}
-use Rattle.feature_expr.specs.declared.token.TokenKind.TheVariants as kind
-use Rattle.feature_expr.proofs.StandLaws.{TokenIs, both_true, first_at, drop_past, slice_past, token_here}
+use Rattle.word_tokens.specs.Tokens.{closing_from, closing_at, unquoted, scanned, scanned_at}
+use Rattle.word_tokens.specs.declared.token.Token.{Token}
+use Rattle.word_tokens.specs.declared.token.TokenKind.TheVariants as kind
+use Rattle.word_tokens.proofs.StandLaws.{TokenIs, both_true, first_at, drop_past, slice_past, token_here}
 use Rattle.query_printer.specs.Printing.{byte_text, quoted}
 use Rattle.query_parser.proofs.Heres.{Here}
 use Rattle.query_parser.proofs.Printables.{IsQuotable}

@@ -1,7 +1,7 @@
 -- What a text spells is printed as a text that spells it alone.
 use Rattle.std.proofs.Common.{Bool, ◌≡◌, ℕ, List, [], ◌∷◌, ◌++◌, None, Ok, Err, refl}
 use Rattle.feature_expr.specs.Names.{refusal}
-use Rattle.feature_expr.proofs.TokenLaws.{has_tokens}
+use Rattle.word_tokens.proofs.TokenLaws.{has_tokens}
 use Rattle.vra_syntax.specs.declared.statement.Statement.{Statement}
 use Rattle.query_printer.specs.Printing.{text_of}
 use Rattle.query_parser.specs.Texts.{IsText, IsRefusedText, GivesStatements}

@@ -2,12 +2,12 @@
 use Rattle.std.proofs.Common.{Bool, true, false, ◌≡◌, ℕ, ℤ, ◌+◌, ◌==◌, ◌||◌, if◌then◌else◌, List, length, Option, Some, None, Ok, Err, codes, nat_lt, slice_get, refl}
 use Rattle.std.proofs.lemmas.Bool.{eqb-true}
 use Rattle.std.specs.Str.{bytes_eq}
-use Rattle.feature_expr.specs.Names.{is_name_of, same_word_as}
-use Rattle.feature_expr.specs.Tokens.{bytes_of}
-use Rattle.feature_expr.specs.declared.token.Token.{Token}
-use Rattle.feature_expr.specs.declared.token.TokenKind.{TokenKind}
-use Rattle.feature_expr.specs.declared.token.TokenKind.TheVariants as kind
-use Rattle.feature_expr.specs.declared.value.Value.TheVariants as value
+use Rattle.word_tokens.specs.Words.{is_name_of, same_word_as}
+use Rattle.word_tokens.specs.Tokens.{bytes_of}
+use Rattle.word_tokens.specs.declared.token.Token.{Token}
+use Rattle.word_tokens.specs.declared.token.TokenKind.{TokenKind}
+use Rattle.word_tokens.specs.declared.token.TokenKind.TheVariants as kind
+use Rattle.values.specs.declared.value.Value.TheVariants as value
 use Rattle.vra_syntax.specs.declared.cond.Operand.TheVariants as operand
 use Rattle.query_parser.specs.Lexemes.{number_of, lexeme_of_name, lexeme_of_inner, lexeme_of_reserved, lexeme_of_word, is_unequal, lexeme_of_comparison, lexeme_of_mark, lexeme_of_kind, lexeme_of_token, lexeme_at, stands, value_of_kind, value_of, value_at}
 use Rattle.query_parser.specs.Settings.{integer_of, integer_in, integer_at}

@@ -4,16 +4,16 @@ use Rattle.std.proofs.Common.{arith, Bool, true, false, ◌≡◌, ◌∙◌, sy
 use Rattle.std.specs.Char.{to_ascii_lowercase}
 use Rattle.std.specs.Str.{bytes_eq}
 use Rattle.std.proofs.lemmas.Slice.Eq.{bytes_eq-Decides}
-use Rattle.feature_expr.specs.Names.{is_name_of, same_word_as}
-use Rattle.feature_expr.specs.Tokens.{bytes_of}
+use Rattle.word_tokens.specs.Words.{is_name_of, same_word_as}
+use Rattle.word_tokens.specs.Tokens.{bytes_of}
 use Rattle.feature_expr.specs.ExprGrammar.{sign_of_word, sign_of_mark, sign_of_kind, sign_of_token, sign_at}
-use Rattle.feature_expr.specs.declared.token.Token.{Token}
-use Rattle.feature_expr.specs.declared.token.TokenKind.{TokenKind}
-use Rattle.feature_expr.specs.declared.token.TokenKind.TheVariants as kind
+use Rattle.word_tokens.specs.declared.token.Token.{Token}
+use Rattle.word_tokens.specs.declared.token.TokenKind.{TokenKind}
+use Rattle.word_tokens.specs.declared.token.TokenKind.TheVariants as kind
 use Rattle.vra_syntax.specs.declared.cond.Op.{Op}
 use Rattle.vra_syntax.specs.declared.cond.Operand.{Operand}
 use Rattle.vra_syntax.specs.declared.cond.Operand.TheVariants as operand
-use Rattle.feature_expr.specs.declared.value.Value.TheVariants as value
+use Rattle.values.specs.declared.value.Value.TheVariants as value
 use Rattle.query_parser.specs.Lexemes.{number_of, lexeme_of_name, lexeme_of_inner, lexeme_of_reserved, lexeme_of_word, is_unequal, lexeme_of_comparison, lexeme_of_mark, lexeme_of_kind, lexeme_of_token, lexeme_at, is_name, folded_of, name_at, op_of, op_at, truth_of, value_of_kind, value_of, value_at}
 use Rattle.query_parser.specs.StatementGrammar.{takes}
 use Rattle.query_parser.specs.declared.fault.ParseFault.{ParseFault}

@@ -1,6 +1,6 @@
 -- Statements, put together from their parts.
 use Rattle.std.proofs.Common.{Bool, true, ◌≡◌, ℕ, ◌+◌, ◌||◌, List, arith}
-use Rattle.feature_expr.specs.declared.token.Token.{Token}
+use Rattle.word_tokens.specs.declared.token.Token.{Token}
 use Rattle.vra_syntax.specs.declared.statement.Statement.TheVariants as statement
 use Rattle.vra_syntax.specs.declared.write.Write.{Write}
 use Rattle.vra_syntax.specs.declared.write.Write.TheVariants as write

@@ -1,7 +1,7 @@
 -- Going through statements and whole texts.
 use Rattle.std.proofs.Common.{Bool, true, false, ◌≡◌, subst, ◌<◌, ◌||◌, ℕ, ◌+◌, List, [], ◌∷◌, length, Some, ◌⊎◌, inl, inr, refl, arith}
 use Rattle.feature_expr.specs.declared.expr.Expr.{Expr}
-use Rattle.feature_expr.specs.declared.token.Token.{Token}
+use Rattle.word_tokens.specs.declared.token.Token.{Token}
 use Rattle.vra_syntax.specs.declared.cond.Cond.{Cond}
 use Rattle.vra_syntax.specs.declared.cond.Operand.{Operand}
 use Rattle.vra_syntax.specs.declared.query.Query.{Query}
@@ -19,7 +19,7 @@ use Rattle.query_parser.specs.WriteFaults.{InsertFault, insert_memory, no_into, 
 use Rattle.query_parser.specs.declared.fault.ParseFault.{ParseFault}
 use Rattle.query_parser.specs.declared.fault.ParseFault.TheVariants as fault
 use Rattle.query_parser.specs.declared.lexeme.Lexeme.TheVariants as lexeme
-use Rattle.query_parser.specs.declared.lexeme.TheConstants.{NESTING_LIMIT}
+use Rattle.feature_expr.specs.Nesting.{nesting_limit}
 use Rattle.query_parser.proofs.SignLaws.{name_takes, no_name_takes, ValueFault, not_a_value, too_large, too_many, none_taken, value_fault, end_place}
 use Rattle.query_parser.proofs.Walks.{apart, not_both, Takes, Moves, stays, chain, moved, Excluded, Never, not_this, no_part, choose, pass, pass_to, Faulty, reaches, behind, stuck, missing}
 use Rattle.query_parser.proofs.PartWalks.{but}
@@ -159,7 +159,7 @@ module _ (text : List ℕ) (tokens : List Token) where
 
   too_large_by : (at : ℕ) (why : ParseFault) (s : Form) → Takes text tokens 30 at → ValueFault text tokens (lexeme_at text tokens at) at why → Faulty text tokens (SetValue ∷ s) at why
   too_large_by at why s i (not_a_value none) = absurd (cc (i, none.0))
-  too_large_by at why s i (too_large j) = reaches text tokens NESTING_LIMIT (omega arith) (integer_set at s i)
+  too_large_by at why s i (too_large j) = reaches text tokens nesting_limit (omega arith) (integer_set at s i)
   too_large_by at why s i (too_many j) = absurd (not_both 30 32 (lexeme_at text tokens at) refl i j)
   too_large_by at why s i (none_taken j) = absurd (not_both 30 32 (lexeme_at text tokens at) refl i j)
 
@@ -395,14 +395,14 @@ module _ (with_params : Bool) (names : List (List ℕ)) (text : List ℕ) (token
   end_statement : (at : ℕ) → Takes text tokens 47 at → Moves text tokens (REST text tokens) at [] (at + 1)
   end_statement at i = chain text tokens (choose text tokens 1 0 [] (Sign lexeme.End ∷ []) ((Sign lexeme.Semicolon ∷ Statements ∷ []) ∷ []) [] at (λ limit h. refl) tt (but text tokens 47 38 (Statements ∷ []) at refl i, tt)) (pass text tokens 47 [] at i)
 
-  at_end : (at : ℕ) → at ≡ length tokens → IsViable text tokens NESTING_LIMIT (at + 1) → IsViable text tokens NESTING_LIMIT (length tokens + 1)
-  at_end at e v = subst (λ place. IsViable text tokens NESTING_LIMIT (place + 1)) e v
+  at_end : (at : ℕ) → at ≡ length tokens → IsViable text tokens nesting_limit (at + 1) → IsViable text tokens nesting_limit (length tokens + 1)
+  at_end at e v = subst (λ place. IsViable text tokens nesting_limit (place + 1)) e v
 
   -- a text that is read whole goes on the grammar up to its end
-  pub viable_text : (all : List Statement) → AreStatements with_params names text tokens all → IsViable text tokens NESTING_LIMIT (length tokens + 1)
-  viable_text all (ends_bare same at b i) = at_end at (end_place text tokens at i) (reaches text tokens NESTING_LIMIT (omega arith) (chain text tokens (reads_before all at b) (end_text at i))).goes
+  pub viable_text : (all : List Statement) → AreStatements with_params names text tokens all → IsViable text tokens nesting_limit (length tokens + 1)
+  viable_text all (ends_bare same at b i) = at_end at (end_place text tokens at i) (reaches text tokens nesting_limit (omega arith) (chain text tokens (reads_before all at b) (end_text at i))).goes
   viable_text all (ends_with_statement before at s end b r i) =
-      at_end end (end_place text tokens end i) (reaches text tokens NESTING_LIMIT (omega arith) (chain text tokens (reads_before before at b) (chain text tokens (past_statement at s end r) (end_statement end i)))).goes
+      at_end end (end_place text tokens end i) (reaches text tokens nesting_limit (omega arith) (chain text tokens (reads_before before at b) (chain text tokens (past_statement at s end r) (end_statement end i)))).goes
 
   fails_text : (why : ParseFault) → StatementsFault with_params names text tokens why → Faulty text tokens (Statements ∷ []) 0 why
   fails_text why statements_memory = tt

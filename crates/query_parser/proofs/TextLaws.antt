@@ -1,6 +1,6 @@
 -- A text is one list of statements alone, and then it has no fault, or it has one fault.
 use Rattle.std.proofs.Common.{Bool, ◌≡◌, ◌≢◌, ℕ, List, Ok, Err, sym, ap, ◌∙◌, refl}
-use Rattle.feature_expr.specs.declared.token.Token.{Token}
+use Rattle.word_tokens.specs.declared.token.Token.{Token}
 use Rattle.feature_expr.proofs.OneLaws.{one_tokens}
 use Rattle.vra_syntax.specs.declared.statement.Statement.{Statement}
 use Rattle.query_parser.specs.Texts.{IsText, Refusal, IsRefusedText, placed_at, GivesStatements, GivesTextFault}

@@ -3,17 +3,17 @@
 use Rattle.std.proofs.Common.{Bool, true, false, ◌≡◌, ◌∙◌, sym, ◌<◌, ◌≤◌, ◌==◌, ◌&&◌, ◌||◌, if◌then◌else◌, ℕ, ◌+◌, List, [], ◌∷◌, ◌++◌, subst, nat_lt, nat_le, is_some, inl, inr, refl, arith}
 use Rattle.std.proofs.lemmas.Bool.Decides.{nat_tests}
 use Rattle.std.proofs.lemmas.Bool.{and_parts}
-use Rattle.feature_expr.specs.Grammar.{Terminal, Nonterminal, AnyOf}
-use Rattle.feature_expr.specs.GrammarLaws.{here, open_part, close_part, open_sign, close_sign}
+use Rattle.word_tokens.specs.Grammar.{Terminal, Nonterminal, AnyOf}
+use Rattle.word_tokens.proofs.GrammarLaws.{here, open_part, close_part, open_sign, close_sign}
 use Rattle.feature_expr.specs.ExprGrammar.{Part, Mark, Foreign, Outer, forms, fits}
-use Rattle.feature_expr.specs.declared.token.Token.{Token}
+use Rattle.word_tokens.specs.declared.token.Token.{Token}
 use Rattle.query_parser.specs.Lexemes.{number_of, lexeme_at, is_name, op_of}
 use Rattle.query_parser.specs.StatementGrammar.{takes, fitting, Form, outer, Goes}
 use Rattle.query_parser.specs.declared.fault.ParseFault.{ParseFault}
 use Rattle.query_parser.specs.declared.fault.ParseFault.TheVariants as fault
 use Rattle.query_parser.specs.declared.lexeme.Lexeme.{Lexeme}
 use Rattle.query_parser.specs.declared.lexeme.Lexeme.TheVariants as lexeme
-use Rattle.query_parser.specs.declared.lexeme.TheConstants.{NESTING_LIMIT}
+use Rattle.feature_expr.specs.Nesting.{nesting_limit}
 
 -- the numbers of the tokens that a sign of the grammar stands for
 abbrev pub low : ℕ → ℕ
@@ -71,8 +71,8 @@ module _ (text : List ℕ) (tokens : List Token) where
   -- under each limit, what is open from one place on goes on where other symbols go on from another
   pub record Moves (s : Form) (at : ℕ) (s' : Form) (at' : ℕ) : Type 0 where
     pub order : at ≤ at'
-    pub on : (limit to : ℕ) → NESTING_LIMIT ≤ limit → at' < to → Goes text tokens limit s at to → Goes text tokens limit s' at' to
-    pub back : (limit to : ℕ) → NESTING_LIMIT ≤ limit → Goes text tokens limit s' at' to → Goes text tokens limit s at to
+    pub on : (limit to : ℕ) → nesting_limit ≤ limit → at' < to → Goes text tokens limit s at to → Goes text tokens limit s' at' to
+    pub back : (limit to : ℕ) → nesting_limit ≤ limit → Goes text tokens limit s' at' to → Goes text tokens limit s at to
 
   pub stays : (s : Form) (at : ℕ) → Moves s at s at
   stays s at = record { order = omega arith; on = λ limit to h later m. m; back = λ limit to h m. m }
@@ -130,7 +130,7 @@ module _ (text : List ℕ) (tokens : List Token) where
   no_part part n all s at is none limit to later m = none_of s at limit to (all limit) later (none limit) (rw (is limit) at (close_part (grammar limit) token_fits (Outer part n) s at to later m))
 
   -- the one form of a part that takes the token at a place
-  pub choose : (part n : ℕ) (before : List Form) (form : Form) (after : List Form) (s : Form) (at : ℕ) → ((limit : ℕ) → NESTING_LIMIT ≤ limit → outer limit part n ≡ before ++ form ∷ after) → NoneOf s at before → NoneOf s at after → Moves (Nonterminal (Outer part n) ∷ s) at (form ++ s) at
+  pub choose : (part n : ℕ) (before : List Form) (form : Form) (after : List Form) (s : Form) (at : ℕ) → ((limit : ℕ) → nesting_limit ≤ limit → outer limit part n ≡ before ++ form ∷ after) → NoneOf s at before → NoneOf s at after → Moves (Nonterminal (Outer part n) ∷ s) at (form ++ s) at
   choose part n before form after s at is none none' = record {
     order = omega arith;
     on = λ limit to h later m. this_of s at limit to before form after later none none' (rw (is limit h) at (close_part (grammar limit) token_fits (Outer part n) s at to later m));
@@ -138,7 +138,7 @@ module _ (text : List ℕ) (tokens : List Token) where
   }
 
   -- and where the forms behind it hang on the limit
-  pub choose_by : (part n : ℕ) (before : List Form) (form : Form) (after : ℕ → List Form) (s : Form) (at : ℕ) → ((limit : ℕ) → NESTING_LIMIT ≤ limit → outer limit part n ≡ before ++ form ∷ after limit) → NoneOf s at before → ((limit : ℕ) → NoneOf s at (after limit)) → Moves (Nonterminal (Outer part n) ∷ s) at (form ++ s) at
+  pub choose_by : (part n : ℕ) (before : List Form) (form : Form) (after : ℕ → List Form) (s : Form) (at : ℕ) → ((limit : ℕ) → nesting_limit ≤ limit → outer limit part n ≡ before ++ form ∷ after limit) → NoneOf s at before → ((limit : ℕ) → NoneOf s at (after limit)) → Moves (Nonterminal (Outer part n) ∷ s) at (form ++ s) at
   choose_by part n before form after s at is none none' = record {
     order = omega arith;
     on = λ limit to h later m. this_of s at limit to before form (after limit) later none (none' limit) (rw (is limit h) at (close_part (grammar limit) token_fits (Outer part n) s at to later m));
@@ -169,35 +169,35 @@ module _ (text : List ℕ) (tokens : List Token) where
 
   -- why what is open from a place on doesn't go on
   abbrev pub Faulty : Form → ℕ → ParseFault → Type 0
-  Faulty s at (fault.Syntax place) = (limit : ℕ) → NESTING_LIMIT ≤ limit → Stops limit s at place
-  Faulty s at (fault.TooDeep place) = Stops NESTING_LIMIT s at place × ((limit : ℕ) → NESTING_LIMIT < limit → Reached limit s at (place + 1))
-  Faulty s at (fault.UnknownFeature place) = Reached NESTING_LIMIT s at (place + 1)
-  Faulty s at (fault.IntTooLarge place) = Reached NESTING_LIMIT s at (place + 1)
-  Faulty s at (fault.TooManyParams place) = Reached NESTING_LIMIT s at (place + 1)
-  Faulty s at (fault.NoParam place) = Reached NESTING_LIMIT s at (place + 1)
+  Faulty s at (fault.Syntax place) = (limit : ℕ) → nesting_limit ≤ limit → Stops limit s at place
+  Faulty s at (fault.TooDeep place) = Stops nesting_limit s at place × ((limit : ℕ) → nesting_limit < limit → Reached limit s at (place + 1))
+  Faulty s at (fault.UnknownFeature place) = Reached nesting_limit s at (place + 1)
+  Faulty s at (fault.IntTooLarge place) = Reached nesting_limit s at (place + 1)
+  Faulty s at (fault.TooManyParams place) = Reached nesting_limit s at (place + 1)
+  Faulty s at (fault.NoParam place) = Reached nesting_limit s at (place + 1)
   Faulty s at fault.Memory = Unit {0}
 
-  stops_behind : (limit : ℕ) (s : Form) (at : ℕ) (s' : Form) (at' place : ℕ) → NESTING_LIMIT ≤ limit → Moves s at s' at' → Stops limit s' at' place → Stops limit s at place
+  stops_behind : (limit : ℕ) (s : Form) (at : ℕ) (s' : Form) (at' place : ℕ) → nesting_limit ≤ limit → Moves s at s' at' → Stops limit s' at' place → Stops limit s at place
   stops_behind limit s at s' at' place h m f = record {
     order = omega (arith, m.order, f.order);
     before = m.back limit place h f.before;
     never = λ to later g. f.never to later (m.on limit to h (omega (arith, f.order, later)) g);
   }
 
-  reached_behind : (limit : ℕ) (s : Form) (at : ℕ) (s' : Form) (at' to : ℕ) → NESTING_LIMIT ≤ limit → Moves s at s' at' → Reached limit s' at' to → Reached limit s at to
+  reached_behind : (limit : ℕ) (s : Form) (at : ℕ) (s' : Form) (at' to : ℕ) → nesting_limit ≤ limit → Moves s at s' at' → Reached limit s' at' to → Reached limit s at to
   reached_behind limit s at s' at' to h m r = record { order = omega (arith, m.order, r.order); goes = m.back limit to h r.goes }
 
-  pub reaches : {s : Form} {at : ℕ} {s' : Form} {at' : ℕ} (limit : ℕ) → NESTING_LIMIT ≤ limit → Moves s at s' at' → Reached limit s at at'
+  pub reaches : {s : Form} {at : ℕ} {s' : Form} {at' : ℕ} (limit : ℕ) → nesting_limit ≤ limit → Moves s at s' at' → Reached limit s at at'
   reaches {s} {at} {s'} {at'} limit h m = record { order = m.order; goes = m.back limit at' h (here (grammar limit) token_fits s' at') }
 
   -- a fault of what is open further on
   pub behind : {s : Form} {at : ℕ} {s' : Form} {at' : ℕ} (why : ParseFault) → Moves s at s' at' → Faulty s' at' why → Faulty s at why
   behind {s} {at} {s'} {at'} (fault.Syntax place) m f = λ limit h. stops_behind limit s at s' at' place h m (f limit h)
-  behind {s} {at} {s'} {at'} (fault.TooDeep place) m f = (stops_behind NESTING_LIMIT s at s' at' place (omega arith) m f.0, λ limit h. reached_behind limit s at s' at' (place + 1) (omega (arith, h)) m (f.1 limit h))
-  behind {s} {at} {s'} {at'} (fault.UnknownFeature place) m f = reached_behind NESTING_LIMIT s at s' at' (place + 1) (omega arith) m f
-  behind {s} {at} {s'} {at'} (fault.IntTooLarge place) m f = reached_behind NESTING_LIMIT s at s' at' (place + 1) (omega arith) m f
-  behind {s} {at} {s'} {at'} (fault.TooManyParams place) m f = reached_behind NESTING_LIMIT s at s' at' (place + 1) (omega arith) m f
-  behind {s} {at} {s'} {at'} (fault.NoParam place) m f = reached_behind NESTING_LIMIT s at s' at' (place + 1) (omega arith) m f
+  behind {s} {at} {s'} {at'} (fault.TooDeep place) m f = (stops_behind nesting_limit s at s' at' place (omega arith) m f.0, λ limit h. reached_behind limit s at s' at' (place + 1) (omega (arith, h)) m (f.1 limit h))
+  behind {s} {at} {s'} {at'} (fault.UnknownFeature place) m f = reached_behind nesting_limit s at s' at' (place + 1) (omega arith) m f
+  behind {s} {at} {s'} {at'} (fault.IntTooLarge place) m f = reached_behind nesting_limit s at s' at' (place + 1) (omega arith) m f
+  behind {s} {at} {s'} {at'} (fault.TooManyParams place) m f = reached_behind nesting_limit s at s' at' (place + 1) (omega arith) m f
+  behind {s} {at} {s'} {at'} (fault.NoParam place) m f = reached_behind nesting_limit s at s' at' (place + 1) (omega arith) m f
   behind {s} {at} {s'} {at'} fault.Memory m f = tt
 
   -- no token can stand where these symbols are open
@@ -208,12 +208,12 @@ module _ (text : List ℕ) (tokens : List Token) where
   missing sign s at other = stuck (Terminal (Foreign sign) ∷ s) at (not_this sign s at other)
 
   -- a token that could stand there if the text might nest deeper
-  pub deep : (part n sign : ℕ) (others before after : List Form) (rest : Form) (s : Form) (at : ℕ) → NESTING_LIMIT ≤ n → Takes sign at → outer NESTING_LIMIT part n ≡ others → NoneOf s at others → ((limit : ℕ) → NESTING_LIMIT < limit → n < limit → outer limit part n ≡ before ++ (Terminal (Foreign sign) ∷ rest) ∷ after) → (n ≤ NESTING_LIMIT) → Faulty (Nonterminal (Outer part n) ∷ s) at (fault.TooDeep at)
+  pub deep : (part n sign : ℕ) (others before after : List Form) (rest : Form) (s : Form) (at : ℕ) → nesting_limit ≤ n → Takes sign at → outer nesting_limit part n ≡ others → NoneOf s at others → ((limit : ℕ) → nesting_limit < limit → n < limit → outer limit part n ≡ before ++ (Terminal (Foreign sign) ∷ rest) ∷ after) → (n ≤ nesting_limit) → Faulty (Nonterminal (Outer part n) ∷ s) at (fault.TooDeep at)
   deep part n sign others before after rest s at low is none_is none some_is high = (
     record {
       order = omega arith;
-      before = here (grammar NESTING_LIMIT) token_fits (Nonterminal (Outer part n) ∷ s) at;
-      never = λ to later m. none_of s at NESTING_LIMIT to others later none (rw none_is at (close_part (grammar NESTING_LIMIT) token_fits (Outer part n) s at to later m));
+      before = here (grammar nesting_limit) token_fits (Nonterminal (Outer part n) ∷ s) at;
+      never = λ to later m. none_of s at nesting_limit to others later none (rw none_is at (close_part (grammar nesting_limit) token_fits (Outer part n) s at to later m));
     },
     λ limit h. record {
       order = omega arith;

@@ -2,7 +2,7 @@
 use Rattle.std.proofs.Common.{Bool, true, false, ◌≡◌, ◌==◌, ℕ, ◌+◌, ◌<◌, nat_lt, if◌then◌else◌, List, length, Option, Some, None, Result, Ok, IsTrue, slice_get, refl, ◌∙◌}
 use Rattle.std.proofs.lemmas.Bool.{eqb-true}
 use Rattle.std.proofs.lemmas.Option.{slice_get_within}
-use Rattle.feature_expr.specs.declared.token.Token.{Token}
+use Rattle.word_tokens.specs.declared.token.Token.{Token}
 use Rattle.vra_syntax.specs.declared.cond.Operand.{Operand}
 use Rattle.query_parser.specs.Lexemes.{number_of, lexeme_of_token, lexeme_at, stands, is_name, folded_of, name_at, value_at}
 use Rattle.query_parser.specs.Parts.{IsOperand, value_operand}

@@ -1,7 +1,7 @@
 -- Going through writes, other statements and whole texts.
 use Rattle.std.proofs.Common.{Bool, true, false, ◌≡◌, ◌≢◌, sym, subst, ◌<◌, ◌==◌, ℕ, ◌+◌, ◌-◌, List, [], ◌∷◌, ◌++◌, length, Some, refl, arith}
 use Rattle.std.proofs.lemmas.Bool.Decides.{nat_tests}
-use Rattle.feature_expr.specs.declared.token.Token.{Token}
+use Rattle.word_tokens.specs.declared.token.Token.{Token}
 use Rattle.vra_syntax.specs.declared.cond.Operand.{Operand}
 use Rattle.vra_syntax.specs.declared.write.SetItem.{SetItem}
 use Rattle.query_parser.specs.Lexemes.{stands, name_at}

@@ -2,11 +2,11 @@
 -- come anywhere.
 use Rattle.std.specs.Prelude.{Bool, true, false, ◌≡◌, ◌≢◌, ℕ, ◌+◌, ◌<◌, ◌≤◌, List, Option, Some, None, Err}
 use Rattle.feature_expr.specs.ExprGrammar.{Disjunction, IsRefused, IsFirst}
-use Rattle.feature_expr.specs.declared.column_name.ColName.{ColName}
+use Rattle.values.specs.declared.column_name.ColName.{ColName}
 use Rattle.feature_expr.specs.declared.expr.Expr.{Expr}
 use Rattle.feature_expr.specs.declared.parse.Fault.{Fault}
-use Rattle.feature_expr.specs.declared.token.Token.{Token}
-use Rattle.feature_expr.specs.declared.value.Value.TheVariants as value
+use Rattle.word_tokens.specs.declared.token.Token.{Token}
+use Rattle.values.specs.declared.value.Value.TheVariants as value
 use Rattle.vra_syntax.specs.declared.cond.Cond.{Cond}
 use Rattle.vra_syntax.specs.declared.cond.Op.{Op}
 use Rattle.vra_syntax.specs.declared.cond.Operand.{Operand}
@@ -22,7 +22,7 @@ use Rattle.query_parser.specs.Queries.{QueryPart, QueryChain, WholeQuery, Term, 
 use Rattle.query_parser.specs.declared.fault.ParseFault.{ParseFault}
 use Rattle.query_parser.specs.declared.fault.ParseFault.TheVariants as fault
 use Rattle.query_parser.specs.declared.lexeme.Lexeme.TheVariants as lexeme
-use Rattle.query_parser.specs.declared.lexeme.TheConstants.{NESTING_LIMIT}
+use Rattle.feature_expr.specs.Nesting.{nesting_limit}
 
 pub data ColumnFault (text : List ℕ) (tokens : List Token) (at : ℕ) : ParseFault → Type 0 where
   column_memory : ColumnFault text tokens at fault.Memory
@@ -37,18 +37,18 @@ pub data OperandFault (with_params : Bool) (text : List ℕ) (tokens : List Toke
 -- in a feature expression, whose features before the fault are known
 pub record ExpressionFault (names : List (List ℕ)) (text : List ℕ) (tokens : List Token) (nesting at : ℕ) (why : ParseFault) : Type 0 where
   pub inner : Fault
-  pub refused : IsRefused names text tokens NESTING_LIMIT (Disjunction nesting) at inner
+  pub refused : IsRefused names text tokens nesting_limit (Disjunction nesting) at inner
   pub first : IsFirst names text tokens at inner
   pub given : why ≡ fault_of inner
 
 -- from the word `choice` to the bracket before its sides
 pub data ChoiceFault (names : List (List ℕ)) (text : List ℕ) (tokens : List Token) (nesting at : ℕ) : ParseFault → Type 0 where
-  choice_too_deep : stands text tokens at lexeme.Choice ≡ true → NESTING_LIMIT ≤ nesting → ChoiceFault names text tokens nesting at (fault.TooDeep at)
-  no_square : stands text tokens at lexeme.Choice ≡ true → nesting < NESTING_LIMIT → stands text tokens (at + 1) lexeme.OpenSquare ≡ false → ChoiceFault names text tokens nesting at (fault.Syntax (at + 1))
-  in_chooser : (why : ParseFault) → stands text tokens at lexeme.Choice ≡ true → nesting < NESTING_LIMIT → stands text tokens (at + 1) lexeme.OpenSquare ≡ true → ExpressionFault names text tokens (nesting + 1) (at + 2) why → ChoiceFault names text tokens nesting at why
-  square_unclosed : (expr : Expr) (close : ℕ) → stands text tokens at lexeme.Choice ≡ true → nesting < NESTING_LIMIT → stands text tokens (at + 1) lexeme.OpenSquare ≡ true → IsExpression names text tokens (nesting + 1) (at + 2) expr close → stands text tokens close lexeme.CloseSquare ≡ false → ChoiceFault names text tokens nesting at (fault.Syntax close)
-  no_sides : (expr : Expr) (close : ℕ) → stands text tokens at lexeme.Choice ≡ true → nesting < NESTING_LIMIT → stands text tokens (at + 1) lexeme.OpenSquare ≡ true → IsExpression names text tokens (nesting + 1) (at + 2) expr close → stands text tokens close lexeme.CloseSquare ≡ true → stands text tokens (close + 1) lexeme.Open ≡ false → ChoiceFault names text tokens nesting at (fault.Syntax (close + 1))
-  sides_too_deep : (expr : Expr) (close : ℕ) → stands text tokens at lexeme.Choice ≡ true → nesting < NESTING_LIMIT → stands text tokens (at + 1) lexeme.OpenSquare ≡ true → IsExpression names text tokens (nesting + 1) (at + 2) expr close → stands text tokens close lexeme.CloseSquare ≡ true → stands text tokens (close + 1) lexeme.Open ≡ true → NESTING_LIMIT ≤ nesting + 1 → ChoiceFault names text tokens nesting at (fault.TooDeep (close + 1))
+  choice_too_deep : stands text tokens at lexeme.Choice ≡ true → nesting_limit ≤ nesting → ChoiceFault names text tokens nesting at (fault.TooDeep at)
+  no_square : stands text tokens at lexeme.Choice ≡ true → nesting < nesting_limit → stands text tokens (at + 1) lexeme.OpenSquare ≡ false → ChoiceFault names text tokens nesting at (fault.Syntax (at + 1))
+  in_chooser : (why : ParseFault) → stands text tokens at lexeme.Choice ≡ true → nesting < nesting_limit → stands text tokens (at + 1) lexeme.OpenSquare ≡ true → ExpressionFault names text tokens (nesting + 1) (at + 2) why → ChoiceFault names text tokens nesting at why
+  square_unclosed : (expr : Expr) (close : ℕ) → stands text tokens at lexeme.Choice ≡ true → nesting < nesting_limit → stands text tokens (at + 1) lexeme.OpenSquare ≡ true → IsExpression names text tokens (nesting + 1) (at + 2) expr close → stands text tokens close lexeme.CloseSquare ≡ false → ChoiceFault names text tokens nesting at (fault.Syntax close)
+  no_sides : (expr : Expr) (close : ℕ) → stands text tokens at lexeme.Choice ≡ true → nesting < nesting_limit → stands text tokens (at + 1) lexeme.OpenSquare ≡ true → IsExpression names text tokens (nesting + 1) (at + 2) expr close → stands text tokens close lexeme.CloseSquare ≡ true → stands text tokens (close + 1) lexeme.Open ≡ false → ChoiceFault names text tokens nesting at (fault.Syntax (close + 1))
+  sides_too_deep : (expr : Expr) (close : ℕ) → stands text tokens at lexeme.Choice ≡ true → nesting < nesting_limit → stands text tokens (at + 1) lexeme.OpenSquare ≡ true → IsExpression names text tokens (nesting + 1) (at + 2) expr close → stands text tokens close lexeme.CloseSquare ≡ true → stands text tokens (close + 1) lexeme.Open ≡ true → nesting_limit ≤ nesting + 1 → ChoiceFault names text tokens nesting at (fault.TooDeep (close + 1))
 
 pub data CondFault (with_params : Bool) (names : List (List ℕ)) (text : List ℕ) (tokens : List Token) : CondPart → ℕ → ParseFault → Type 0 where
   cond_memory : (part : CondPart) (at : ℕ) → CondFault with_params names text tokens part at fault.Memory
@@ -56,11 +56,11 @@ pub data CondFault (with_params : Bool) (names : List (List ℕ)) (text : List �
   in_next_conjunction : (n at : ℕ) (left : Cond) (middle : ℕ) (why : ParseFault) → SpellsCond with_params names text tokens (OrChain n) at left middle → stands text tokens middle lexeme.Or ≡ true → CondFault with_params names text tokens (Conjunction n) (middle + 1) why → CondFault with_params names text tokens (Condition n) at why
   in_first_negation : (n at : ℕ) (why : ParseFault) → CondFault with_params names text tokens (Negation n) at why → CondFault with_params names text tokens (Conjunction n) at why
   in_next_negation : (n at : ℕ) (left : Cond) (middle : ℕ) (why : ParseFault) → SpellsCond with_params names text tokens (AndChain n) at left middle → stands text tokens middle lexeme.And ≡ true → CondFault with_params names text tokens (Negation n) (middle + 1) why → CondFault with_params names text tokens (Conjunction n) at why
-  not_too_deep : (n at : ℕ) → stands text tokens at lexeme.Not ≡ true → NESTING_LIMIT ≤ n → CondFault with_params names text tokens (Negation n) at (fault.TooDeep at)
-  in_not : (n at : ℕ) (why : ParseFault) → stands text tokens at lexeme.Not ≡ true → n < NESTING_LIMIT → CondFault with_params names text tokens (Negation (n + 1)) (at + 1) why → CondFault with_params names text tokens (Negation n) at why
-  cond_too_deep : (n at : ℕ) → stands text tokens at lexeme.Open ≡ true → NESTING_LIMIT ≤ n → CondFault with_params names text tokens (Negation n) at (fault.TooDeep at)
-  in_cond_brackets : (n at : ℕ) (why : ParseFault) → stands text tokens at lexeme.Open ≡ true → n < NESTING_LIMIT → CondFault with_params names text tokens (Condition (n + 1)) (at + 1) why → CondFault with_params names text tokens (Negation n) at why
-  cond_unclosed : (n at : ℕ) (c : Cond) (end : ℕ) → stands text tokens at lexeme.Open ≡ true → n < NESTING_LIMIT → SpellsCond with_params names text tokens (Condition (n + 1)) (at + 1) c end → stands text tokens end lexeme.Close ≡ false → CondFault with_params names text tokens (Negation n) at (fault.Syntax end)
+  not_too_deep : (n at : ℕ) → stands text tokens at lexeme.Not ≡ true → nesting_limit ≤ n → CondFault with_params names text tokens (Negation n) at (fault.TooDeep at)
+  in_not : (n at : ℕ) (why : ParseFault) → stands text tokens at lexeme.Not ≡ true → n < nesting_limit → CondFault with_params names text tokens (Negation (n + 1)) (at + 1) why → CondFault with_params names text tokens (Negation n) at why
+  cond_too_deep : (n at : ℕ) → stands text tokens at lexeme.Open ≡ true → nesting_limit ≤ n → CondFault with_params names text tokens (Negation n) at (fault.TooDeep at)
+  in_cond_brackets : (n at : ℕ) (why : ParseFault) → stands text tokens at lexeme.Open ≡ true → n < nesting_limit → CondFault with_params names text tokens (Condition (n + 1)) (at + 1) why → CondFault with_params names text tokens (Negation n) at why
+  cond_unclosed : (n at : ℕ) (c : Cond) (end : ℕ) → stands text tokens at lexeme.Open ≡ true → n < nesting_limit → SpellsCond with_params names text tokens (Condition (n + 1)) (at + 1) c end → stands text tokens end lexeme.Close ≡ false → CondFault with_params names text tokens (Negation n) at (fault.Syntax end)
   in_cond_choice : (n at : ℕ) (why : ParseFault) → ChoiceFault names text tokens n at why → CondFault with_params names text tokens (Negation n) at why
   in_left_cond : (n at : ℕ) (expr : Expr) (sides : ℕ) (why : ParseFault) → IsChoice names text tokens n at expr sides → CondFault with_params names text tokens (Condition (n + 2)) sides why → CondFault with_params names text tokens (Negation n) at why
   no_right_cond : (n at : ℕ) (expr : Expr) (sides : ℕ) (left : Cond) (middle : ℕ) → IsChoice names text tokens n at expr sides → SpellsCond with_params names text tokens (Condition (n + 2)) sides left middle → stands text tokens middle lexeme.Comma ≡ false → CondFault with_params names text tokens (Negation n) at (fault.Syntax middle)
@@ -104,9 +104,9 @@ pub data QueryFault (with_params : Bool) (names : List (List ℕ)) (text : List 
   in_select_where : (n at : ℕ) (items : Items) (source : Query) (from behind : ℕ) (why : ParseFault) → stands text tokens at lexeme.Select ≡ true → AreItems names text tokens n (at + 1) items from → stands text tokens from lexeme.From ≡ true → SpellsQuery with_params names text tokens (WholeSource n) (from + 1) source behind → WhereFault with_params names text tokens n behind why → QueryFault with_params names text tokens (Term n) at why
   in_simple_term : (n at : ℕ) (why : ParseFault) → stands text tokens at lexeme.Select ≡ false → QueryFault with_params names text tokens (Simple n) at why → QueryFault with_params names text tokens (Term n) at why
   no_simple_query : (n at : ℕ) → name_at text tokens at ≡ None → stands text tokens at lexeme.Empty ≡ false → stands text tokens at lexeme.Open ≡ false → stands text tokens at lexeme.Choice ≡ false → QueryFault with_params names text tokens (Simple n) at (fault.Syntax at)
-  query_too_deep : (n at : ℕ) → stands text tokens at lexeme.Open ≡ true → NESTING_LIMIT ≤ n → QueryFault with_params names text tokens (Simple n) at (fault.TooDeep at)
-  in_query_brackets : (n at : ℕ) (why : ParseFault) → stands text tokens at lexeme.Open ≡ true → n < NESTING_LIMIT → QueryFault with_params names text tokens (WholeQuery (n + 1)) (at + 1) why → QueryFault with_params names text tokens (Simple n) at why
-  query_unclosed : (n at : ℕ) (q : Query) (end : ℕ) → stands text tokens at lexeme.Open ≡ true → n < NESTING_LIMIT → SpellsQuery with_params names text tokens (WholeQuery (n + 1)) (at + 1) q end → stands text tokens end lexeme.Close ≡ false → QueryFault with_params names text tokens (Simple n) at (fault.Syntax end)
+  query_too_deep : (n at : ℕ) → stands text tokens at lexeme.Open ≡ true → nesting_limit ≤ n → QueryFault with_params names text tokens (Simple n) at (fault.TooDeep at)
+  in_query_brackets : (n at : ℕ) (why : ParseFault) → stands text tokens at lexeme.Open ≡ true → n < nesting_limit → QueryFault with_params names text tokens (WholeQuery (n + 1)) (at + 1) why → QueryFault with_params names text tokens (Simple n) at why
+  query_unclosed : (n at : ℕ) (q : Query) (end : ℕ) → stands text tokens at lexeme.Open ≡ true → n < nesting_limit → SpellsQuery with_params names text tokens (WholeQuery (n + 1)) (at + 1) q end → stands text tokens end lexeme.Close ≡ false → QueryFault with_params names text tokens (Simple n) at (fault.Syntax end)
   in_query_choice : (n at : ℕ) (why : ParseFault) → ChoiceFault names text tokens n at why → QueryFault with_params names text tokens (Simple n) at why
   in_left_query : (n at : ℕ) (expr : Expr) (sides : ℕ) (why : ParseFault) → IsChoice names text tokens n at expr sides → QueryFault with_params names text tokens (WholeQuery (n + 2)) sides why → QueryFault with_params names text tokens (Simple n) at why
   no_right_query : (n at : ℕ) (expr : Expr) (sides : ℕ) (left : Query) (middle : ℕ) → IsChoice names text tokens n at expr sides → SpellsQuery with_params names text tokens (WholeQuery (n + 2)) sides left middle → stands text tokens middle lexeme.Comma ≡ false → QueryFault with_params names text tokens (Simple n) at (fault.Syntax middle)

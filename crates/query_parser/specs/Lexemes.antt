@@ -2,12 +2,12 @@
 use Rattle.std.specs.Prelude.{Bool, true, false, ℕ, ◌==◌, ◌||◌, if◌then◌else◌, List, map, length, Option, Some, None, Result, Ok, Err, codes, slice_get}
 use Rattle.std.specs.Char.{to_ascii_lowercase}
 use Rattle.std.specs.Str.{bytes_eq}
-use Rattle.feature_expr.specs.Names.{is_name_of, same_word_as}
-use Rattle.feature_expr.specs.Tokens.{bytes_of}
-use Rattle.feature_expr.specs.declared.token.Token.{Token}
-use Rattle.feature_expr.specs.declared.token.TokenKind.{TokenKind}
-use Rattle.feature_expr.specs.declared.token.TokenKind.TheVariants as kind
-use Rattle.feature_expr.specs.declared.value.Value.TheVariants as value
+use Rattle.word_tokens.specs.Words.{is_name_of, same_word_as}
+use Rattle.word_tokens.specs.Tokens.{bytes_of}
+use Rattle.word_tokens.specs.declared.token.Token.{Token}
+use Rattle.word_tokens.specs.declared.token.TokenKind.{TokenKind}
+use Rattle.word_tokens.specs.declared.token.TokenKind.TheVariants as kind
+use Rattle.values.specs.declared.value.Value.TheVariants as value
 use Rattle.vra_syntax.specs.declared.cond.Op.{Op}
 use Rattle.vra_syntax.specs.declared.cond.Op.TheVariants as op
 use Rattle.vra_syntax.specs.declared.cond.Operand.{Operand}

@@ -2,10 +2,10 @@
 -- ends; what ends with `To` may go on.
 use Rattle.std.specs.Prelude.{Bool, true, false, ◌≡◌, ℕ, ◌+◌, ◌<◌, List, [], ◌∷◌, ◌++◌, Option, Some, None, Ok}
 use Rattle.feature_expr.specs.ExprGrammar.{Disjunction, IsRead, Spells}
-use Rattle.feature_expr.specs.declared.column_name.ColName.{ColName}
+use Rattle.values.specs.declared.column_name.ColName.{ColName}
 use Rattle.feature_expr.specs.declared.expr.Expr.{Expr}
 use Rattle.feature_expr.specs.declared.expr.Expr as e
-use Rattle.feature_expr.specs.declared.token.Token.{Token}
+use Rattle.word_tokens.specs.declared.token.Token.{Token}
 use Rattle.vra_syntax.specs.declared.cond.Operand.{Operand}
 use Rattle.vra_syntax.specs.declared.cond.Operand.TheVariants as operand
 use Rattle.vra_syntax.specs.declared.items.Item.{Item}
@@ -13,7 +13,7 @@ use Rattle.vra_syntax.specs.declared.items.Items.{Items}
 use Rattle.vra_syntax.specs.declared.items.Items.TheVariants as items
 use Rattle.query_parser.specs.Lexemes.{stands, name_at, value_at}
 use Rattle.query_parser.specs.declared.lexeme.Lexeme.TheVariants as lexeme
-use Rattle.query_parser.specs.declared.lexeme.TheConstants.{NESTING_LIMIT}
+use Rattle.feature_expr.specs.Nesting.{nesting_limit}
 
 -- the name of a column: a name, or two with a dot between them
 pub data IsColumn (text : List ℕ) (tokens : List Token) (at : ℕ) : ColName → ℕ → Type 0 where
@@ -27,18 +27,18 @@ pub data IsOperand (with_params : Bool) (text : List ℕ) (tokens : List Token) 
 
 -- a feature expression, where so many brackets, `not` and choices are open round it
 pub record IsExpression (names : List (List ℕ)) (text : List ℕ) (tokens : List Token) (nesting at : ℕ) (expr : Expr) (end : ℕ) : Type 0 where
-  pub read : IsRead text tokens NESTING_LIMIT (Disjunction nesting) at end
+  pub read : IsRead text tokens nesting_limit (Disjunction nesting) at end
   pub spelled : Spells names text tokens (Disjunction nesting) at expr end
 
 -- the word `choice`, its expression in square brackets, and the bracket in which the two sides stand
 pub record IsChoice (names : List (List ℕ)) (text : List ℕ) (tokens : List Token) (nesting at : ℕ) (expr : Expr) (sides : ℕ) : Type 0 where
   pub begins : stands text tokens at lexeme.Choice ≡ true
-  pub within : nesting < NESTING_LIMIT
+  pub within : nesting < nesting_limit
   pub square : stands text tokens (at + 1) lexeme.OpenSquare ≡ true
   pub close : ℕ
   pub chooses : IsExpression names text tokens (nesting + 1) (at + 2) expr close
   pub squared : stands text tokens close lexeme.CloseSquare ≡ true
-  pub sides_within : nesting + 1 < NESTING_LIMIT
+  pub sides_within : nesting + 1 < nesting_limit
   pub opens : stands text tokens (close + 1) lexeme.Open ≡ true
   pub ends : sides ≡ close + 2
 

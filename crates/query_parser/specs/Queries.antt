@@ -2,7 +2,7 @@
 -- rank.
 use Rattle.std.specs.Prelude.{Bool, true, false, ◌≡◌, ℕ, ◌+◌, ◌<◌, List, Some}
 use Rattle.feature_expr.specs.declared.expr.Expr.{Expr}
-use Rattle.feature_expr.specs.declared.token.Token.{Token}
+use Rattle.word_tokens.specs.declared.token.Token.{Token}
 use Rattle.vra_syntax.specs.declared.cond.Cond.{Cond}
 use Rattle.vra_syntax.specs.declared.items.Items.{Items}
 use Rattle.vra_syntax.specs.declared.query.Query.{Query}
@@ -11,7 +11,7 @@ use Rattle.query_parser.specs.Conditions.{Condition, SpellsCond, IsWhere}
 use Rattle.query_parser.specs.Lexemes.{stands, name_at}
 use Rattle.query_parser.specs.Parts.{IsChoice, AreItems}
 use Rattle.query_parser.specs.declared.lexeme.Lexeme.TheVariants as lexeme
-use Rattle.query_parser.specs.declared.lexeme.TheConstants.{NESTING_LIMIT}
+use Rattle.feature_expr.specs.Nesting.{nesting_limit}
 
 -- the parts of a query, each with the number of brackets and choices that are open round it. A chain may go on; a whole
 -- part doesn't. A simple query is a table, `empty`, a query in brackets or a choice.
@@ -33,7 +33,7 @@ pub data SpellsQuery (with_params : Bool) (names : List (List ℕ)) (text : List
   simple_term : (n at : ℕ) (q : Query) (end : ℕ) → SpellsQuery with_params names text tokens (Simple n) at q end → SpellsQuery with_params names text tokens (Term n) at q end
   table : (n at : ℕ) (name : List ℕ) → name_at text tokens at ≡ Some name → SpellsQuery with_params names text tokens (Simple n) at (query.Table name) (at + 1)
   empty_query : (n at : ℕ) → stands text tokens at lexeme.Empty ≡ true → SpellsQuery with_params names text tokens (Simple n) at query.Empty (at + 1)
-  query_in_brackets : (n at : ℕ) (q : Query) (end : ℕ) → stands text tokens at lexeme.Open ≡ true → n < NESTING_LIMIT → SpellsQuery with_params names text tokens (WholeQuery (n + 1)) (at + 1) q end → stands text tokens end lexeme.Close ≡ true → SpellsQuery with_params names text tokens (Simple n) at q (end + 1)
+  query_in_brackets : (n at : ℕ) (q : Query) (end : ℕ) → stands text tokens at lexeme.Open ≡ true → n < nesting_limit → SpellsQuery with_params names text tokens (WholeQuery (n + 1)) (at + 1) q end → stands text tokens end lexeme.Close ≡ true → SpellsQuery with_params names text tokens (Simple n) at q (end + 1)
   choice_of_queries : (n at : ℕ) (expr : Expr) (sides : ℕ) (left right : Query) (middle end : ℕ) → IsChoice names text tokens n at expr sides → SpellsQuery with_params names text tokens (WholeQuery (n + 2)) sides left middle → stands text tokens middle lexeme.Comma ≡ true → SpellsQuery with_params names text tokens (WholeQuery (n + 2)) (middle + 1) right end → stands text tokens end lexeme.Close ≡ true → SpellsQuery with_params names text tokens (Simple n) at (query.Choice expr left right) (end + 1)
   one_source : (n at : ℕ) (q : Query) (end : ℕ) → SpellsQuery with_params names text tokens (SourceTerm n) at q end → SpellsQuery with_params names text tokens (SourceChain n) at q end
   joined_source : (n at : ℕ) (left right : Query) (c : Cond) (middle on end : ℕ) → SpellsQuery with_params names text tokens (SourceChain n) at left middle → stands text tokens middle lexeme.Join ≡ true → SpellsQuery with_params names text tokens (SourceTerm n) (middle + 1) right on → stands text tokens on lexeme.On ≡ true → SpellsCond with_params names text tokens (Condition n) (on + 1) c end → SpellsQuery with_params names text tokens (SourceChain n) at (query.Join left right c) end

@@ -1,8 +1,8 @@
 -- The value of a setting.
 use Rattle.std.specs.Prelude.{ℕ, ℤ, List, Option, Some, None, slice_get}
-use Rattle.feature_expr.specs.declared.token.Token.{Token}
-use Rattle.feature_expr.specs.declared.token.TokenKind.{TokenKind}
-use Rattle.feature_expr.specs.declared.token.TokenKind.TheVariants as kind
+use Rattle.word_tokens.specs.declared.token.Token.{Token}
+use Rattle.word_tokens.specs.declared.token.TokenKind.{TokenKind}
+use Rattle.word_tokens.specs.declared.token.TokenKind.TheVariants as kind
 
 abbrev pub integer_of : TokenKind → Option ℤ
 integer_of (kind.Integer number) = number

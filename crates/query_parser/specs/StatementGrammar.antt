@@ -1,14 +1,14 @@
 -- The grammar of statements, round that of feature expressions, and which tokens begin a text of it.
 use Rattle.std.specs.Prelude.{Bool, true, false, ℕ, ◌+◌, ◌-◌, ◌<◌, ◌≤◌, ◌==◌, if◌then◌else◌, List, [], ◌∷◌, is_some, nat_lt}
-use Rattle.feature_expr.specs.Grammar.{Symbol, Terminal, Nonterminal, Matches}
+use Rattle.word_tokens.specs.Grammar.{Symbol, Terminal, Nonterminal, Matches}
 use Rattle.feature_expr.specs.ExprGrammar.{Part, Mark, Outer, Foreign, Disjunction, forms, fits}
-use Rattle.feature_expr.specs.declared.token.Token.{Token}
+use Rattle.word_tokens.specs.declared.token.Token.{Token}
 use Rattle.query_parser.specs.Lexemes.{number_of, lexeme_at, is_name, op_of}
 use Rattle.query_parser.specs.declared.fault.ParseFault.{ParseFault}
 use Rattle.query_parser.specs.declared.fault.ParseFault.TheVariants as fault
 use Rattle.query_parser.specs.declared.lexeme.Lexeme.{Lexeme}
 use Rattle.query_parser.specs.declared.lexeme.Lexeme.TheVariants as lexeme
-use Rattle.query_parser.specs.declared.lexeme.TheConstants.{NESTING_LIMIT}
+use Rattle.feature_expr.specs.Nesting.{nesting_limit}
 
 -- a word, reserved or not
 abbrev pub is_word : Lexeme → Bool
@@ -262,10 +262,10 @@ pub record IsFirstTextFault (text : List ℕ) (tokens : List Token) (limit at : 
 -- nest; one of nesting where that token could stand if they might nest deeper; and each other fault at a token that could
 -- stand there
 abbrev pub IsViableFault : List ℕ → List Token → ParseFault → Type 0
-IsViableFault text tokens (fault.Syntax at) = (limit : ℕ) → NESTING_LIMIT ≤ limit → IsFirstTextFault text tokens limit at
-IsViableFault text tokens (fault.TooDeep at) = IsFirstTextFault text tokens NESTING_LIMIT at × ((limit : ℕ) → NESTING_LIMIT < limit → IsViable text tokens limit (at + 1))
-IsViableFault text tokens (fault.UnknownFeature at) = IsViable text tokens NESTING_LIMIT (at + 1)
-IsViableFault text tokens (fault.IntTooLarge at) = IsViable text tokens NESTING_LIMIT (at + 1)
-IsViableFault text tokens (fault.TooManyParams at) = IsViable text tokens NESTING_LIMIT (at + 1)
-IsViableFault text tokens (fault.NoParam at) = IsViable text tokens NESTING_LIMIT (at + 1)
+IsViableFault text tokens (fault.Syntax at) = (limit : ℕ) → nesting_limit ≤ limit → IsFirstTextFault text tokens limit at
+IsViableFault text tokens (fault.TooDeep at) = IsFirstTextFault text tokens nesting_limit at × ((limit : ℕ) → nesting_limit < limit → IsViable text tokens limit (at + 1))
+IsViableFault text tokens (fault.UnknownFeature at) = IsViable text tokens nesting_limit (at + 1)
+IsViableFault text tokens (fault.IntTooLarge at) = IsViable text tokens nesting_limit (at + 1)
+IsViableFault text tokens (fault.TooManyParams at) = IsViable text tokens nesting_limit (at + 1)
+IsViableFault text tokens (fault.NoParam at) = IsViable text tokens nesting_limit (at + 1)
 IsViableFault text tokens fault.Memory = Unit {0}

@@ -1,14 +1,14 @@
 -- Texts that are statements, and why others aren't.
 use Rattle.std.specs.Prelude.{Bool, ◌≡◌, ◌≢◌, ℕ, ◌+◌, List, length, Result, Ok, Err}
-use Rattle.feature_expr.specs.Tokens.{AreTokens, place_at}
-use Rattle.feature_expr.specs.declared.token.Token.{Token}
+use Rattle.word_tokens.specs.Tokens.{AreTokens, place_at}
+use Rattle.word_tokens.specs.declared.token.Token.{Token}
 use Rattle.vra_syntax.specs.declared.statement.Statement.{Statement}
 use Rattle.query_parser.specs.StatementGrammar.{IsViable, IsViableFault}
 use Rattle.query_parser.specs.Statements.{AreStatements}
 use Rattle.query_parser.specs.WriteFaults.{StatementsFault}
 use Rattle.query_parser.specs.declared.fault.ParseFault.{ParseFault}
 use Rattle.query_parser.specs.declared.fault.ParseFault.TheVariants as fault
-use Rattle.query_parser.specs.declared.lexeme.TheConstants.{NESTING_LIMIT}
+use Rattle.feature_expr.specs.Nesting.{nesting_limit}
 use Rattle.query_parser.specs.declared.refused.ParseRefused.{ParseRefused}
 use Rattle.query_parser.specs.declared.refused.ParseRefused.TheVariants as refused
 
@@ -26,7 +26,7 @@ placed_at text tokens fault.Memory = refused.Memory
 pub record IsText (names : List (List ℕ)) (with_params : Bool) (text : List ℕ) (statements : List Statement) : Type 0 where
   pub tokens : List Token
   pub are_tokens : AreTokens text tokens
-  pub viable : IsViable text tokens NESTING_LIMIT (length tokens + 1)
+  pub viable : IsViable text tokens nesting_limit (length tokens + 1)
   pub spelled : AreStatements with_params names text tokens statements
 
 pub record Refusal (names : List (List ℕ)) (with_params : Bool) (text : List ℕ) (why : ParseRefused) : Type 0 where

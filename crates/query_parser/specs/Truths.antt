@@ -1,6 +1,6 @@
 -- Operands that are conditions alone.
 use Rattle.std.specs.Prelude.{true, false, Option, Some, None}
-use Rattle.feature_expr.specs.declared.value.Value.TheVariants as value
+use Rattle.values.specs.declared.value.Value.TheVariants as value
 use Rattle.vra_syntax.specs.declared.cond.Cond.{Cond}
 use Rattle.vra_syntax.specs.declared.cond.Cond as cond
 use Rattle.vra_syntax.specs.declared.cond.Operand.{Operand}

@@ -1,6 +1,6 @@
 -- Which writes tokens spell, each behind its word.
 use Rattle.std.specs.Prelude.{Bool, ℕ, List}
-use Rattle.feature_expr.specs.declared.token.Token.{Token}
+use Rattle.word_tokens.specs.declared.token.Token.{Token}
 use Rattle.vra_syntax.specs.declared.write.Write.{Write}
 use Rattle.vra_syntax.specs.declared.write.Write.TheVariants as write
 use Rattle.query_parser.specs.Statements.{IsInsert, IsDelete, IsUpdate}

@@ -3,7 +3,7 @@ ghost use Rattle.query_parser.specs.Parts.{IsExpression, IsChoice, IsWhen};
 ghost use Rattle.query_parser.specs.Faults.{ExpressionFault, ChoiceFault, WhenFault};
 ghost use Rattle.query_parser.specs.Lexemes.{stands};
 ghost use Rattle.query_parser.specs.declared.lexeme.Lexeme.TheVariants as lexeme;
-ghost use Rattle.query_parser.specs.declared.lexeme.TheConstants.{NESTING_LIMIT};
+ghost use Rattle.feature_expr.specs.Nesting.{nesting_limit};
 
 use crate::fault::ParseFault;
 use crate::lexeme::{Lexeme, stands};
@@ -18,7 +18,7 @@ pub fn parse_expression(
     at: usize,
 ) -> Result<(Expr, usize), ParseFault>
     requires within { at ≤ length reading.now.tokens.now }
-    requires limit { reading.now.max_nesting ≡ NESTING_LIMIT }
+    requires limit { reading.now.max_nesting ≡ nesting_limit }
     ensures within { IfOk result (λ found. (at < found.1) × (found.1 ≤ length reading.now.tokens.now)) }
     ensures spelled { IfOk result (λ found. IsExpression reading.now.features.now reading.now.text.now reading.now.tokens.now nesting at found.0 found.1) }
     ensures refused { IfErr result (ExpressionFault reading.now.features.now reading.now.text.now reading.now.tokens.now nesting at) }
@@ -39,9 +39,9 @@ pub fn parse_choice(
 ) -> Result<(Expr, usize), ParseFault>
     requires begins { stands reading.now.text.now reading.now.tokens.now at lexeme.Choice ≡ true }
     requires within { at < length reading.now.tokens.now }
-    requires limit { reading.now.max_nesting ≡ NESTING_LIMIT }
+    requires limit { reading.now.max_nesting ≡ nesting_limit }
     ensures within { IfOk result (λ found. (at < found.1) × (found.1 ≤ length reading.now.tokens.now)) }
-    ensures nesting { IfOk result (λ found. nesting + 1 < NESTING_LIMIT) }
+    ensures nesting { IfOk result (λ found. nesting + 1 < nesting_limit) }
     ensures spelled { IfOk result (λ found. IsChoice reading.now.features.now reading.now.text.now reading.now.tokens.now nesting at found.0 found.1) }
     ensures refused { IfErr result (ChoiceFault reading.now.features.now reading.now.text.now reading.now.tokens.now nesting at) }
 {
@@ -58,7 +58,7 @@ pub fn parse_choice(
 #[tactic(auto, using(crate::specs::Parts::no_when, crate::specs::Parts::some_when))]
 pub fn parse_when(reading: &Reading<'_>, at: usize) -> Result<(Expr, usize), ParseFault>
     requires within { at ≤ length reading.now.tokens.now }
-    requires limit { reading.now.max_nesting ≡ NESTING_LIMIT }
+    requires limit { reading.now.max_nesting ≡ nesting_limit }
     ensures within { IfOk result (λ found. (at ≤ found.1) × (found.1 ≤ length reading.now.tokens.now)) }
     ensures spelled { IfOk result (λ found. IsWhen reading.now.features.now reading.now.text.now reading.now.tokens.now at found.0 found.1) }
     ensures refused { IfErr result (WhenFault reading.now.features.now reading.now.text.now reading.now.tokens.now 0 at) }

@@ -4,7 +4,7 @@ ghost use Rattle.query_parser.specs.Faults.{CondFault, WhereFault};
 ghost use Rattle.query_parser.specs.Lexemes.{stands};
 ghost use Rattle.query_parser.specs.Truths.{truth_in};
 ghost use Rattle.query_parser.specs.declared.lexeme.Lexeme.TheVariants as lexeme;
-ghost use Rattle.query_parser.specs.declared.lexeme.TheConstants.{NESTING_LIMIT};
+ghost use Rattle.feature_expr.specs.Nesting.{nesting_limit};
 
 use crate::clauses::parse_choice;
 use crate::fault::ParseFault;
@@ -23,7 +23,7 @@ pub fn parse_condition(
     at: usize,
 ) -> Result<(Cond, usize), ParseFault>
     requires within { at ≤ length parsing.now.reading.tokens.now }
-    requires limit { parsing.now.reading.max_nesting ≡ NESTING_LIMIT }
+    requires limit { parsing.now.reading.max_nesting ≡ nesting_limit }
     ensures within { IfOk result (λ found. (at < found.1) × (found.1 ≤ length parsing.now.reading.tokens.now)) }
     ensures spelled { IfOk result (λ found. SpellsCond parsing.now.with_params parsing.now.reading.features.now parsing.now.reading.text.now parsing.now.reading.tokens.now (Condition nesting) at found.0 found.1) }
     ensures refused { IfErr result (CondFault parsing.now.with_params parsing.now.reading.features.now parsing.now.reading.text.now parsing.now.reading.tokens.now (Condition nesting) at) }
@@ -45,7 +45,7 @@ fn parse_conjunction(
     at: usize,
 ) -> Result<(Cond, usize), ParseFault>
     requires within { at ≤ length parsing.now.reading.tokens.now }
-    requires limit { parsing.now.reading.max_nesting ≡ NESTING_LIMIT }
+    requires limit { parsing.now.reading.max_nesting ≡ nesting_limit }
     ensures within { IfOk result (λ found. (at < found.1) × (found.1 ≤ length parsing.now.reading.tokens.now)) }
     ensures spelled { IfOk result (λ found. SpellsCond parsing.now.with_params parsing.now.reading.features.now parsing.now.reading.text.now parsing.now.reading.tokens.now (Conjunction nesting) at found.0 found.1) }
     ensures refused { IfErr result (CondFault parsing.now.with_params parsing.now.reading.features.now parsing.now.reading.text.now parsing.now.reading.tokens.now (Conjunction nesting) at) }
@@ -67,7 +67,7 @@ fn parse_negation(
     at: usize,
 ) -> Result<(Cond, usize), ParseFault>
     requires within { at ≤ length parsing.now.reading.tokens.now }
-    requires limit { parsing.now.reading.max_nesting ≡ NESTING_LIMIT }
+    requires limit { parsing.now.reading.max_nesting ≡ nesting_limit }
     ensures within { IfOk result (λ found. (at < found.1) × (found.1 ≤ length parsing.now.reading.tokens.now)) }
     ensures spelled { IfOk result (λ found. SpellsCond parsing.now.with_params parsing.now.reading.features.now parsing.now.reading.text.now parsing.now.reading.tokens.now (Negation nesting) at found.0 found.1) }
     ensures refused { IfErr result (CondFault parsing.now.with_params parsing.now.reading.features.now parsing.now.reading.text.now parsing.now.reading.tokens.now (Negation nesting) at) }
@@ -97,7 +97,7 @@ fn parse_cond_choice(
 ) -> Result<(Cond, usize), ParseFault>
     requires begins { stands parsing.now.reading.text.now parsing.now.reading.tokens.now at lexeme.Choice ≡ true }
     requires within { at < length parsing.now.reading.tokens.now }
-    requires limit { parsing.now.reading.max_nesting ≡ NESTING_LIMIT }
+    requires limit { parsing.now.reading.max_nesting ≡ nesting_limit }
     ensures within { IfOk result (λ found. (at < found.1) × (found.1 ≤ length parsing.now.reading.tokens.now)) }
     ensures spelled { IfOk result (λ found. SpellsCond parsing.now.with_params parsing.now.reading.features.now parsing.now.reading.text.now parsing.now.reading.tokens.now (Negation nesting) at found.0 found.1) }
     ensures refused { IfErr result (CondFault parsing.now.with_params parsing.now.reading.features.now parsing.now.reading.text.now parsing.now.reading.tokens.now (Negation nesting) at) }
@@ -150,7 +150,7 @@ pub fn parse_where(
     at: usize,
 ) -> Result<(Cond, usize), ParseFault>
     requires within { at ≤ length parsing.now.reading.tokens.now }
-    requires limit { parsing.now.reading.max_nesting ≡ NESTING_LIMIT }
+    requires limit { parsing.now.reading.max_nesting ≡ nesting_limit }
     ensures within { IfOk result (λ found. (at ≤ found.1) × (found.1 ≤ length parsing.now.reading.tokens.now)) }
     ensures spelled { IfOk result (λ found. IsWhere parsing.now.with_params parsing.now.reading.features.now parsing.now.reading.text.now parsing.now.reading.tokens.now nesting at found.0 found.1) }
     ensures refused { IfErr result (WhereFault parsing.now.with_params parsing.now.reading.features.now parsing.now.reading.text.now parsing.now.reading.tokens.now nesting at) }

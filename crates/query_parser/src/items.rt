@@ -3,7 +3,7 @@ ghost use Rattle.query_parser.specs.Faults.{WhenFault, ItemFault, ItemsFault, Re
 ghost use Rattle.query_parser.specs.Lexemes.{stands};
 ghost use Rattle.query_parser.specs.Parts.{IsRename, IsItemWhen, IsItem, ItemsTo, AreItems};
 ghost use Rattle.query_parser.specs.declared.lexeme.Lexeme.TheVariants as lexeme;
-ghost use Rattle.query_parser.specs.declared.lexeme.TheConstants.{NESTING_LIMIT};
+ghost use Rattle.feature_expr.specs.Nesting.{nesting_limit};
 
 use crate::clauses::parse_expression;
 use crate::fault::ParseFault;
@@ -20,7 +20,7 @@ pub fn parse_items(
     at: usize,
 ) -> Result<(Items, usize), ParseFault>
     requires within { at ≤ length reading.now.tokens.now }
-    requires limit { reading.now.max_nesting ≡ NESTING_LIMIT }
+    requires limit { reading.now.max_nesting ≡ nesting_limit }
     ensures within { IfOk result (λ found. (at < found.1) × (found.1 ≤ length reading.now.tokens.now)) }
     ensures spelled { IfOk result (λ found. AreItems reading.now.features.now reading.now.text.now reading.now.tokens.now nesting at found.0 found.1) }
     ensures refused { IfErr result (ItemsFault reading.now.features.now reading.now.text.now reading.now.tokens.now nesting at) }
@@ -41,7 +41,7 @@ fn parse_item_list(
 ) -> Result<(List<Item>, usize), ParseFault>
     requires listed { stands reading.now.text.now reading.now.tokens.now from lexeme.Star ≡ false }
     requires within { from ≤ length reading.now.tokens.now }
-    requires limit { reading.now.max_nesting ≡ NESTING_LIMIT }
+    requires limit { reading.now.max_nesting ≡ nesting_limit }
     ensures within { IfOk result (λ found. (from < found.1) × (found.1 ≤ length reading.now.tokens.now)) }
     ensures spelled { IfOk result (λ found. ItemsTo reading.now.features.now reading.now.text.now reading.now.tokens.now nesting from found.0 found.1) }
     ensures ends { IfOk result (λ found. stands reading.now.text.now reading.now.tokens.now found.1 lexeme.Comma ≡ false) }
@@ -61,7 +61,7 @@ fn parse_item_list(
 /// An item of a select, and the token behind it.
 #[tactic(auto, using(crate::specs::Faults::in_item_column, crate::specs::Faults::in_rename, crate::specs::Faults::in_item_when))]
 fn parse_item(reading: &Reading<'_>, nesting: u32, at: usize) -> Result<(Item, usize), ParseFault>
-    requires limit { reading.now.max_nesting ≡ NESTING_LIMIT }
+    requires limit { reading.now.max_nesting ≡ nesting_limit }
     ensures within { IfOk result (λ found. (at < found.1) × (found.1 ≤ length reading.now.tokens.now)) }
     ensures spelled { IfOk result (λ found. IsItem reading.now.features.now reading.now.text.now reading.now.tokens.now nesting at found.0 found.1) }
     ensures refused { IfErr result (ItemFault reading.now.features.now reading.now.text.now reading.now.tokens.now nesting at) }
@@ -100,7 +100,7 @@ fn parse_item_when(
     at: usize,
 ) -> Result<(Option<Expr>, usize), ParseFault>
     requires within { at ≤ length reading.now.tokens.now }
-    requires limit { reading.now.max_nesting ≡ NESTING_LIMIT }
+    requires limit { reading.now.max_nesting ≡ nesting_limit }
     ensures within { IfOk result (λ found. (at ≤ found.1) × (found.1 ≤ length reading.now.tokens.now)) }
     ensures spelled { IfOk result (λ found. IsItemWhen reading.now.features.now reading.now.text.now reading.now.tokens.now nesting at found.0 found.1) }
     ensures refused { IfErr result (WhenFault reading.now.features.now reading.now.text.now reading.now.tokens.now nesting at) }

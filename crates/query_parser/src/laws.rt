@@ -2,7 +2,6 @@ ghost use Rattle.std.specs.Prelude.{◌≡◌, ◌≢◌, ℕ, Bool, List, [], �
 ghost use Rattle.feature_expr.specs.Names.{refusal};
 ghost use Rattle.query_printer.specs.Printing.{text_of};
 ghost use Rattle.query_parser.specs.Texts.{IsText, IsRefusedText};
-ghost use Rattle.query_parser.specs.declared.lexeme.TheConstants.{NESTING_LIMIT};
 ghost use Rattle.query_parser.specs.declared.refused.ParseRefused.{ParseRefused};
 ghost use Rattle.query_parser.specs.declared.refused.ParseRefused.TheVariants as refused;
 ghost use Rattle.vra_syntax.specs.declared.statement.Statement.{Statement};
@@ -10,7 +9,6 @@ ghost use Rattle.vra_syntax.specs.declared.statement.Statement.{Statement};
 /// Laws of texts and their statements. The call itself does nothing.
 #[tactic(auto, using(crate::proofs::TextLaws::one_text, crate::proofs::TextLaws::faultless, crate::proofs::TextLaws::one_refusal))]
 pub fn statement_laws()
-    ensures limit { NESTING_LIMIT ≡ 64 }
     // A text is at most one list of statements.
     ensures one { (names : List (List ℕ)) (with_params : Bool) (text : List ℕ) (all other : List Statement) → IsText names with_params text all → IsText names with_params text other → all ≡ other }
     // A text that is statements has no fault.

@@ -1,14 +1,11 @@
 ghost use Rattle.std.specs.Prelude.{◌≡◌, ◌<◌, ◌≤◌, ◌+◌, ◌^◌, true, false, length, slice_get, IfOk, IfErr, IsTrue};
-ghost use Rattle.feature_expr.specs.Tokens.{bytes_of};
+ghost use Rattle.word_tokens.specs.Tokens.{bytes_of};
 ghost use Rattle.query_parser.specs.Lexemes.{lexeme_of_name, lexeme_of_inner, lexeme_of_reserved, lexeme_of_word, is_unequal, lexeme_of_comparison, lexeme_of_mark, lexeme_of_kind, lexeme_at, stands};
 ghost use Rattle.query_parser.specs.Wanted.{is_token};
 ghost use Rattle.query_parser.specs.declared.fault.ParseFault.TheVariants as fault;
 
 use crate::fault::ParseFault;
 use feature_expr::{Reading, Token, TokenKind, is_name_word, same_word};
-
-/// The deepest nesting of brackets, `not` and `choice` in a text.
-pub const NESTING_LIMIT: u32 = 64;
 
 /// What a token is to the grammar of statements.
 #[derive(Clone, Copy, PartialEq, Eq)]

@@ -3,7 +3,7 @@ ghost use Rattle.query_parser.specs.Faults.{QueryFault};
 ghost use Rattle.query_parser.specs.Lexemes.{stands};
 ghost use Rattle.query_parser.specs.Queries.{WholeQuery, Term, Simple, WholeSource, SourceTerm, SpellsQuery};
 ghost use Rattle.query_parser.specs.declared.lexeme.Lexeme.TheVariants as lexeme;
-ghost use Rattle.query_parser.specs.declared.lexeme.TheConstants.{NESTING_LIMIT};
+ghost use Rattle.feature_expr.specs.Nesting.{nesting_limit};
 
 use crate::clauses::parse_choice;
 use crate::conditions::{parse_condition, parse_where};
@@ -26,7 +26,7 @@ pub fn parse_query(
     at: usize,
 ) -> Result<(Query, usize), ParseFault>
     requires within { at ≤ length parsing.now.reading.tokens.now }
-    requires limit { parsing.now.reading.max_nesting ≡ NESTING_LIMIT }
+    requires limit { parsing.now.reading.max_nesting ≡ nesting_limit }
     ensures within { IfOk result (λ found. (at < found.1) × (found.1 ≤ length parsing.now.reading.tokens.now)) }
     ensures spelled { IfOk result (λ found. SpellsQuery parsing.now.with_params parsing.now.reading.features.now parsing.now.reading.text.now parsing.now.reading.tokens.now (WholeQuery nesting) at found.0 found.1) }
     ensures refused { IfErr result (QueryFault parsing.now.with_params parsing.now.reading.features.now parsing.now.reading.text.now parsing.now.reading.tokens.now (WholeQuery nesting) at) }
@@ -51,7 +51,7 @@ pub fn parse_query(
 #[tactic(auto, using(crate::specs::Queries::select_term, crate::specs::Queries::simple_term, crate::specs::Faults::query_memory, crate::specs::Faults::in_items, crate::specs::Faults::no_from, crate::specs::Faults::in_source, crate::specs::Faults::in_select_where, crate::specs::Faults::in_simple_term))]
 fn parse_term(parsing: &Parsing<'_>, nesting: u32, at: usize) -> Result<(Query, usize), ParseFault>
     requires within { at ≤ length parsing.now.reading.tokens.now }
-    requires limit { parsing.now.reading.max_nesting ≡ NESTING_LIMIT }
+    requires limit { parsing.now.reading.max_nesting ≡ nesting_limit }
     ensures within { IfOk result (λ found. (at < found.1) × (found.1 ≤ length parsing.now.reading.tokens.now)) }
     ensures spelled { IfOk result (λ found. SpellsQuery parsing.now.with_params parsing.now.reading.features.now parsing.now.reading.text.now parsing.now.reading.tokens.now (Term nesting) at found.0 found.1) }
     ensures refused { IfErr result (QueryFault parsing.now.with_params parsing.now.reading.features.now parsing.now.reading.text.now parsing.now.reading.tokens.now (Term nesting) at) }
@@ -76,7 +76,7 @@ fn parse_simple(
     at: usize,
 ) -> Result<(Query, usize), ParseFault>
     requires within { at ≤ length parsing.now.reading.tokens.now }
-    requires limit { parsing.now.reading.max_nesting ≡ NESTING_LIMIT }
+    requires limit { parsing.now.reading.max_nesting ≡ nesting_limit }
     ensures within { IfOk result (λ found. (at < found.1) × (found.1 ≤ length parsing.now.reading.tokens.now)) }
     ensures spelled { IfOk result (λ found. SpellsQuery parsing.now.with_params parsing.now.reading.features.now parsing.now.reading.text.now parsing.now.reading.tokens.now (Simple nesting) at found.0 found.1) }
     ensures refused { IfErr result (QueryFault parsing.now.with_params parsing.now.reading.features.now parsing.now.reading.text.now parsing.now.reading.tokens.now (Simple nesting) at) }
@@ -105,7 +105,7 @@ fn parse_query_choice(
 ) -> Result<(Query, usize), ParseFault>
     requires begins { stands parsing.now.reading.text.now parsing.now.reading.tokens.now at lexeme.Choice ≡ true }
     requires within { at < length parsing.now.reading.tokens.now }
-    requires limit { parsing.now.reading.max_nesting ≡ NESTING_LIMIT }
+    requires limit { parsing.now.reading.max_nesting ≡ nesting_limit }
     ensures within { IfOk result (λ found. (at < found.1) × (found.1 ≤ length parsing.now.reading.tokens.now)) }
     ensures spelled { IfOk result (λ found. SpellsQuery parsing.now.with_params parsing.now.reading.features.now parsing.now.reading.text.now parsing.now.reading.tokens.now (Simple nesting) at found.0 found.1) }
     ensures refused { IfErr result (QueryFault parsing.now.with_params parsing.now.reading.features.now parsing.now.reading.text.now parsing.now.reading.tokens.now (Simple nesting) at) }
@@ -127,7 +127,7 @@ fn parse_source(
     at: usize,
 ) -> Result<(Query, usize), ParseFault>
     requires within { at ≤ length parsing.now.reading.tokens.now }
-    requires limit { parsing.now.reading.max_nesting ≡ NESTING_LIMIT }
+    requires limit { parsing.now.reading.max_nesting ≡ nesting_limit }
     ensures within { IfOk result (λ found. (at < found.1) × (found.1 ≤ length parsing.now.reading.tokens.now)) }
     ensures spelled { IfOk result (λ found. SpellsQuery parsing.now.with_params parsing.now.reading.features.now parsing.now.reading.text.now parsing.now.reading.tokens.now (WholeSource nesting) at found.0 found.1) }
     ensures refused { IfErr result (QueryFault parsing.now.with_params parsing.now.reading.features.now parsing.now.reading.text.now parsing.now.reading.tokens.now (WholeSource nesting) at) }
@@ -152,7 +152,7 @@ fn parse_source_term(
     at: usize,
 ) -> Result<(Query, usize), ParseFault>
     requires within { at ≤ length parsing.now.reading.tokens.now }
-    requires limit { parsing.now.reading.max_nesting ≡ NESTING_LIMIT }
+    requires limit { parsing.now.reading.max_nesting ≡ nesting_limit }
     ensures within { IfOk result (λ found. (at < found.1) × (found.1 ≤ length parsing.now.reading.tokens.now)) }
     ensures spelled { IfOk result (λ found. SpellsQuery parsing.now.with_params parsing.now.reading.features.now parsing.now.reading.text.now parsing.now.reading.tokens.now (SourceTerm nesting) at found.0 found.1) }
     ensures refused { IfErr result (QueryFault parsing.now.with_params parsing.now.reading.features.now parsing.now.reading.text.now parsing.now.reading.tokens.now (SourceTerm nesting) at) }

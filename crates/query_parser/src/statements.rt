@@ -5,7 +5,7 @@ ghost use Rattle.query_parser.specs.StatementGrammar.{is_word};
 ghost use Rattle.query_parser.specs.Statements.{IsTail, IsSetting, SpellsStatement, AreStatements};
 ghost use Rattle.query_parser.specs.WriteFaults.{SettingFault, StatementFault, StatementsFault};
 ghost use Rattle.query_parser.specs.declared.lexeme.Lexeme.TheVariants as lexeme;
-ghost use Rattle.query_parser.specs.declared.lexeme.TheConstants.{NESTING_LIMIT};
+ghost use Rattle.feature_expr.specs.Nesting.{nesting_limit};
 
 use crate::fault::ParseFault;
 use crate::lexeme::{Lexeme, lexeme_at, stands};
@@ -19,7 +19,7 @@ use vra_syntax::Statement;
 /// All the statements of a text.
 #[tactic(auto, using(crate::specs::Statements::no_statement_yet, crate::specs::Statements::no_statement_here, crate::specs::Statements::another_statement, crate::specs::Statements::ends_bare, crate::specs::Statements::ends_with_statement, crate::specs::WriteFaults::statements_memory, crate::specs::WriteFaults::in_statement, crate::specs::WriteFaults::statement_unended))]
 pub fn parse_statements(parsing: &Parsing<'_>) -> Result<List<Statement>, ParseFault>
-    requires limit { parsing.now.reading.max_nesting ≡ NESTING_LIMIT }
+    requires limit { parsing.now.reading.max_nesting ≡ nesting_limit }
     ensures spelled { IfOk result (AreStatements parsing.now.with_params parsing.now.reading.features.now parsing.now.reading.text.now parsing.now.reading.tokens.now) }
     ensures refused { IfErr result (StatementsFault parsing.now.with_params parsing.now.reading.features.now parsing.now.reading.text.now parsing.now.reading.tokens.now) }
 {
@@ -45,7 +45,7 @@ pub fn parse_statements(parsing: &Parsing<'_>) -> Result<List<Statement>, ParseF
 #[tactic(auto, using(crate::specs::Statements::begin_statement, crate::specs::Statements::commit_statement, crate::specs::Statements::rollback_statement, crate::proofs::StatementLaws::sets, crate::specs::Statements::query_statement, crate::specs::WriteFaults::statement_memory, crate::specs::WriteFaults::in_setting, crate::specs::WriteFaults::in_insert, crate::specs::WriteFaults::in_delete, crate::specs::WriteFaults::in_update, crate::specs::WriteFaults::in_query, crate::proofs::StatementLaws::inserts, crate::proofs::StatementLaws::deletes, crate::proofs::StatementLaws::updates))]
 fn parse_statement(parsing: &Parsing<'_>, at: usize) -> Result<(Statement, usize), ParseFault>
     requires within { at ≤ length parsing.now.reading.tokens.now }
-    requires limit { parsing.now.reading.max_nesting ≡ NESTING_LIMIT }
+    requires limit { parsing.now.reading.max_nesting ≡ nesting_limit }
     ensures within { IfOk result (λ found. (at < found.1) × (found.1 ≤ length parsing.now.reading.tokens.now)) }
     ensures spelled { IfOk result (λ found. SpellsStatement parsing.now.with_params parsing.now.reading.features.now parsing.now.reading.text.now parsing.now.reading.tokens.now at found.0 found.1) }
     ensures refused { IfErr result (StatementFault parsing.now.with_params parsing.now.reading.features.now parsing.now.reading.text.now parsing.now.reading.tokens.now at) }

@@ -6,11 +6,10 @@ ghost use Rattle.query_parser.specs.declared.refused.ParseRefused.TheVariants as
 ghost use Rattle.vra_syntax.specs.declared.statement.Statement.{Statement as Parsed};
 
 use crate::fault::ParseFault;
-use crate::lexeme::NESTING_LIMIT;
 use crate::parsing::Parsing;
 use crate::refused::ParseRefused;
 use crate::statements::parse_statements;
-use feature_expr::{Features, List, Memory, Reading, Token, token_place, tokens};
+use feature_expr::{Features, List, Memory, NESTING_LIMIT, Reading, Token, token_place, tokens};
 use std::alloc::Global;
 use vra_syntax::Statement;
 

@@ -1,5 +1,5 @@
 ghost use Rattle.std.specs.Prelude.{◌≡◌, ◌<◌, ◌≤◌, ◌+◌, ◌^◌, true, false, length, Some, None, Ok, Err, IfOk, IfErr, IfSome, IsTrue};
-ghost use Rattle.feature_expr.specs.Tokens.{bytes_of};
+ghost use Rattle.word_tokens.specs.Tokens.{bytes_of};
 ghost use Rattle.query_parser.specs.Lexemes.{lexeme_at, stands, is_name, name_at, op_of, op_at, truth_of, value_of_kind, value_at};
 ghost use Rattle.query_parser.specs.Wanted.{is_token, IsSyntaxAt, IsNoValue};
 ghost use Rattle.query_parser.specs.Parts.{IsColumn, IsOperand};

@@ -4,7 +4,7 @@ ghost use Rattle.query_parser.specs.Statements.{NamesTo, IsTuple, TuplesTo, IsSe
 ghost use Rattle.query_parser.specs.WriteFaults.{NamesFault, TupleFault, TuplesFault, SetItemFault, SetItemsFault, InsertFault, DeleteFault, UpdateFault};
 ghost use Rattle.query_parser.specs.Writes.{SpellsInsert, SpellsDelete, SpellsUpdate};
 ghost use Rattle.query_parser.specs.declared.lexeme.Lexeme.TheVariants as lexeme;
-ghost use Rattle.query_parser.specs.declared.lexeme.TheConstants.{NESTING_LIMIT};
+ghost use Rattle.feature_expr.specs.Nesting.{nesting_limit};
 
 use crate::clauses::parse_when;
 use crate::conditions::parse_where;
@@ -18,7 +18,7 @@ use vra_syntax::{Operand, SetItem, Write};
 /// The insert whose word stands before a token, and the token behind it.
 #[tactic(auto, using(crate::specs::WriteFaults::insert_memory, crate::specs::WriteFaults::no_into, crate::specs::WriteFaults::no_insert_table, crate::specs::WriteFaults::no_names, crate::specs::WriteFaults::in_names, crate::specs::WriteFaults::no_values, crate::specs::WriteFaults::in_tuples, crate::specs::WriteFaults::in_insert_when))]
 pub fn parse_insert(parsing: &Parsing<'_>, at: usize) -> Result<(Write, usize), ParseFault>
-    requires limit { parsing.now.reading.max_nesting ≡ NESTING_LIMIT }
+    requires limit { parsing.now.reading.max_nesting ≡ nesting_limit }
     ensures within { IfOk result (λ found. (at < found.1) × (found.1 ≤ length parsing.now.reading.tokens.now)) }
     ensures spelled { IfOk result (λ found. SpellsInsert parsing.now.with_params parsing.now.reading.features.now parsing.now.reading.text.now parsing.now.reading.tokens.now at found.0 found.1) }
     ensures refused { IfErr result (InsertFault parsing.now.with_params parsing.now.reading.features.now parsing.now.reading.text.now parsing.now.reading.tokens.now at) }
@@ -112,7 +112,7 @@ fn parse_tuple(
 /// The delete whose word stands before a token, and the token behind it.
 #[tactic(auto, using(crate::specs::WriteFaults::delete_memory, crate::specs::WriteFaults::no_delete_from, crate::specs::WriteFaults::no_delete_table, crate::specs::WriteFaults::in_delete_where, crate::specs::WriteFaults::in_delete_when))]
 pub fn parse_delete(parsing: &Parsing<'_>, at: usize) -> Result<(Write, usize), ParseFault>
-    requires limit { parsing.now.reading.max_nesting ≡ NESTING_LIMIT }
+    requires limit { parsing.now.reading.max_nesting ≡ nesting_limit }
     ensures within { IfOk result (λ found. (at < found.1) × (found.1 ≤ length parsing.now.reading.tokens.now)) }
     ensures spelled { IfOk result (λ found. SpellsDelete parsing.now.with_params parsing.now.reading.features.now parsing.now.reading.text.now parsing.now.reading.tokens.now at found.0 found.1) }
     ensures refused { IfErr result (DeleteFault parsing.now.with_params parsing.now.reading.features.now parsing.now.reading.text.now parsing.now.reading.tokens.now at) }
@@ -128,7 +128,7 @@ pub fn parse_delete(parsing: &Parsing<'_>, at: usize) -> Result<(Write, usize), 
 /// The update whose word stands before a token, and the token behind it.
 #[tactic(auto, using(crate::specs::WriteFaults::update_memory, crate::specs::WriteFaults::no_update_table, crate::specs::WriteFaults::no_set, crate::specs::WriteFaults::in_set_items, crate::specs::WriteFaults::in_update_where, crate::specs::WriteFaults::in_update_when))]
 pub fn parse_update(parsing: &Parsing<'_>, at: usize) -> Result<(Write, usize), ParseFault>
-    requires limit { parsing.now.reading.max_nesting ≡ NESTING_LIMIT }
+    requires limit { parsing.now.reading.max_nesting ≡ nesting_limit }
     ensures within { IfOk result (λ found. (at < found.1) × (found.1 ≤ length parsing.now.reading.tokens.now)) }
     ensures spelled { IfOk result (λ found. SpellsUpdate parsing.now.with_params parsing.now.reading.features.now parsing.now.reading.text.now parsing.now.reading.tokens.now at found.0 found.1) }
     ensures refused { IfErr result (UpdateFault parsing.now.with_params parsing.now.reading.features.now parsing.now.reading.text.now parsing.now.reading.tokens.now at) }

@@ -1,13 +1,13 @@
--- The text of a statement, with single spaces and the fewest brackets.
+-- The text of a statement, with single spaces, and brackets where a part would else be read otherwise.
 use Rattle.std.specs.Prelude.{ℕ, ◌==◌, if◌then◌else◌, Bool, true, false, List, [], ◌∷◌, ◌++◌, map, flat_map, codes, decimal, Option, Some, None}
 use Rattle.std.specs.Fmt.{signed_decimal}
 use Rattle.feature_expr.specs.Printing.{opening, closing}
 use Rattle.feature_expr.specs.Printing as exprs
-use Rattle.feature_expr.specs.declared.column_name.ColName.{ColName}
+use Rattle.values.specs.declared.column_name.ColName.{ColName}
 use Rattle.feature_expr.specs.declared.expr.Expr.{Expr, out-Expr}
 use Rattle.feature_expr.specs.declared.expr.Expr.TheOpen.{Expr-F}
-use Rattle.feature_expr.specs.declared.value.Value.{Value}
-use Rattle.feature_expr.specs.declared.value.Value.TheVariants as value
+use Rattle.values.specs.declared.value.Value.{Value}
+use Rattle.values.specs.declared.value.Value.TheVariants as value
 use Rattle.vra_syntax.specs.declared.cond.Cond.{Cond, fold-Cond, out-Cond}
 use Rattle.vra_syntax.specs.declared.cond.Cond.TheOpen.{Cond-F}
 use Rattle.vra_syntax.specs.declared.cond.Op.{Op}

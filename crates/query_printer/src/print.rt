@@ -9,7 +9,7 @@ use feature_expr::{Features, Memory, Text};
 use std::alloc::Global;
 use vra_syntax::Statement;
 
-/// The text of a statement, with single spaces and the fewest brackets.
+/// The text of a statement, with single spaces, and brackets where a part would else be read otherwise.
 pub fn print_statement(
     alloc: Global,
     statement: &Statement,

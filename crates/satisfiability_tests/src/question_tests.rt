@@ -412,7 +412,7 @@ fn forty_free_features(rt: HostRuntime) -> Result<(), Fail> {
 }
 
 /// How many links the chains have: a recursion down one would exhaust the stack.
-const LINKS: u32 = 300_000;
+const LINKS: u32 = 1_000_000;
 
 #[test]
 fn long_chains_are_no_deep_ones(rt: HostRuntime) -> Result<(), Fail> {

@@ -1,13 +1,13 @@
 -- The features that an answer mentions are the catalogue's.
-use Rattle.std.proofs.Common.{◌≡◌, ◌∙◌, ℕ, ◌<◌, ◌==◌, Bool, true, false, ◌&&◌, ◌||◌, List, [], ◌∷◌, map, length, nat_lt, if◌then◌else◌, refl, sym, ap, subst, true≢false}
+use Rattle.std.proofs.Common.{◌≡◌, ◌∙◌, ℕ, ◌<◌, ◌==◌, Bool, true, false, ◌&&◌, ◌||◌, List, [], ◌∷◌, map, nat_lt, if◌then◌else◌, refl, sym, ap, subst, true≢false}
 use Rattle.std.proofs.lemmas.Bool.{eqb-true, ltb-true}
-use Rattle.std.specs.List.{list_all, list_any}
+use Rattle.std.specs.List.{list_all}
 use Rattle.feature_expr.specs.declared.expr.Expr.{Expr, out-Expr, roll-Expr, map-Expr}
 use Rattle.feature_expr.specs.declared.expr.Expr.TheFolds.{fold-roll-Expr, ind-Expr}
 use Rattle.feature_expr.specs.declared.expr.Expr.TheOpen.{Expr-F}
 use Rattle.feature_expr.specs.declared.expr.Expr.TheVariants.{rolls-True, rolls-False, rolls-Feature, rolls-Not, rolls-And, rolls-Or}
 use Rattle.feature_expr.specs.declared.expr.Expr as e
-use Rattle.feature_expr.specs.Expressions.{and_of, and_left, and_right, mentions, mentions_step}
+use Rattle.feature_expr.specs.Expressions.{and_left, and_right, mentions, mentions_step}
 use Rattle.session_poll.specs.Answers.{columns_mention, answer_mentions}
 use Rattle.session_poll.specs.Scans.{is_of, scanned_column, scanned_row, scanned_rows}
 use Rattle.vschema.specs.declared.catalog.Column.{Column}

@@ -1,5 +1,5 @@
 -- A step of the session machine, by what its rule left.
-use Rattle.std.proofs.Common.{◌≡◌, ◌∙◌, ℕ, ◌≤◌, true, not, List, [], ◌++◌, length, take, drop, Option, Some, None, refl, sym, ap, subst, take-append-drop, take_all, length-take-le, le_of_eq}
+use Rattle.std.proofs.Common.{◌≡◌, ◌∙◌, ℕ, ◌≤◌, true, not, List, [], ◌++◌, length, take, drop, Option, Some, None, refl, sym, ap, subst, take-append-drop, take_all, le_of_eq}
 use Rattle.pg_messages.specs.FrontReading.{front_head, front_of}
 use Rattle.pg_messages.specs.FrontSpelling.{IsFront}
 use Rattle.pg_messages.specs.Packet.{length_of, is_more}

@@ -10,7 +10,7 @@ use Rattle.session_poll.specs.Parts.{Same, WantsMemory, Moves}
 use Rattle.session_poll.specs.Polls.{Polls}
 use Rattle.session_poll.specs.Replies.{spelled}
 use Rattle.session_poll.specs.Runs.{Did, HasSnapshot, IsAt}
-use Rattle.session_poll.specs.Session.{state_of, held_of, waiting_of}
+use Rattle.session_poll.specs.Session.{held_of, waiting_of}
 use Rattle.session_poll.specs.Standing.{polled_as, standing_of, works}
 use Rattle.session_poll.specs.State.{State}
 use Rattle.session_poll.specs.Steps.{Step}

@@ -13,10 +13,10 @@ use Rattle.condition_sat.specs.Admitted.{IsAdmitted}
 use Rattle.feature_expr.specs.Expressions.{weight_of}
 use Rattle.feature_expr.specs.Satisfaction.{satisfies}
 use Rattle.feature_expr.specs.Names.{among}
-use Rattle.feature_expr.specs.Value.{kind_of}
-use Rattle.feature_expr.specs.declared.value.Kind.{Kind}
-use Rattle.feature_expr.specs.declared.value.Kind.TheVariants as kind
-use Rattle.feature_expr.specs.declared.value.Value.{Value}
+use Rattle.values.specs.Value.{kind_of}
+use Rattle.values.specs.declared.value.Kind.{Kind}
+use Rattle.values.specs.declared.value.Kind.TheVariants as kind
+use Rattle.values.specs.declared.value.Value.{Value}
 use Rattle.plain_relation.specs.Relations.{relation_of, columns_of, SameRelation}
 use Rattle.plain_relation.specs.Relations as plain
 use Rattle.session_poll.specs.declared.opening.Opening.{Opening}

@@ -356,7 +356,7 @@ fn nothing_stays_nothing(rt: HostRuntime) -> Result<(), Fail> {
 }
 
 /// How many links a chain has: a recursion down one would exhaust the stack.
-const LINKS: u32 = 300_000;
+const LINKS: u32 = 1_000_000;
 
 /// A disjunction of so many links over 40 features.
 fn chain(alloc: Global) -> Result<Expr, Memory> {

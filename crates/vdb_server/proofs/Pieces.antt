@@ -1,7 +1,7 @@
 -- Pieces that are put one behind the other.
-use Rattle.std.proofs.Common.{◌≡◌, ◌∙◌, ℕ, List, [], Option, Some, None, take, drop, take-append-drop, append-nil, refl, sym, subst}
+use Rattle.std.proofs.Common.{◌≡◌, ◌∙◌, ℕ, List, [], Option, Some, None, take, drop, take-append-drop, append-nil, subst}
 use Rattle.std.specs.Io.KnownBytes.{Appends, Keeps}
-use Rattle.std.proofs.KnownBytes.{Appends-trans, Appends-nil, Keeps-refl}
+use Rattle.std.proofs.KnownBytes.{Appends-trans, Appends-nil}
 
 -- the first bytes of a piece, and then the rest
 pub Appends-rest : (before mid after : Option (List ℕ)) (count : ℕ) (piece : List ℕ) → Appends before mid (take count piece) → Appends mid after (drop count piece) → Appends before after piece

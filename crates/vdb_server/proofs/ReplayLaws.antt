@@ -4,7 +4,7 @@ use Rattle.std.specs.Io.KnownBytes.{Appends, Keeps}
 use Rattle.std.proofs.KnownBytes.{Appends-trans, Appends-nil}
 use Rattle.session_poll.specs.Output.{is_empty}
 use Rattle.session_poll.specs.Polls.{Polls}
-use Rattle.session_poll.specs.Runs.{Did, bytes_read, replied, IsAt}
+use Rattle.session_poll.specs.Runs.{Did, bytes_read, IsAt}
 use Rattle.session_poll.specs.Session.{held_of, waiting_of, is_over}
 use Rattle.session_poll.specs.Standing.{works, is_ended, polled_as, standing_of, Says}
 use Rattle.session_poll.specs.State.{State}

@@ -1,7 +1,6 @@
 -- Reading to the end.
 use Rattle.std.specs.Prelude.{◌≡◌, ℕ, ◌<◌, ◌≤◌, List, ◌++◌, length, take, Option, Some, None}
 use Rattle.std.specs.Io.KnownBytes.{Consumes, IsAtEnd, Keeps}
-use Rattle.causes.specs.Faults.{Rose}
 use Rattle.vdb_server.specs.declared.source.FileGot.{FileGot}
 use Rattle.vdb_server.specs.declared.source.FileGot.TheVariants as got
 

@@ -1,6 +1,6 @@
 -- What a statement is once its parameters have their values. A parameter that has no value stays.
 use Rattle.std.specs.Prelude.{ℕ, ◌-◌, ◌==◌, List, map, Option, Some, None, slice_get, if◌then◌else◌}
-use Rattle.feature_expr.specs.declared.value.Value.{Value}
+use Rattle.values.specs.declared.value.Value.{Value}
 use Rattle.vra_syntax.specs.declared.cond.Operand.{Operand}
 use Rattle.vra_syntax.specs.declared.cond.Operand.TheVariants as operand
 use Rattle.vra_syntax.specs.declared.cond.Cond.{Cond, fold-Cond}

@@ -1,7 +1,7 @@
 -- Opening rows of which a check finds the same.
 use Rattle.std.specs.Prelude.{Bool, ◌≡◌, ℕ, List, Option, Some, map, slice_get}
 use Rattle.std.specs.Option.{is_some}
-use Rattle.feature_expr.specs.declared.value.Value.{Value}
+use Rattle.values.specs.declared.value.Value.{Value}
 use Rattle.vschema.specs.declared.catalog.OpeningRow.{OpeningRow}
 
 -- for each cell place, whether it has a value

@@ -1,8 +1,8 @@
 -- The reader's answers.
 use Rattle.std.proofs.Common.{◌≡◌, ℕ, List, refl}
 use Rattle.std.specs.Str.{IsUtf8}
-use Rattle.feature_expr.specs.Tokens.{AreTokens}
-use Rattle.feature_expr.specs.declared.token.Token.{Token}
+use Rattle.word_tokens.specs.Tokens.{AreTokens}
+use Rattle.word_tokens.specs.declared.token.Token.{Token}
 use Rattle.vschema.specs.Faults.{FileFault}
 use Rattle.vschema.specs.declared.fault.CatalogFault.{CatalogFault}
 use Rattle.vschema.specs.declared.fault.CatalogFault.TheVariants as fault

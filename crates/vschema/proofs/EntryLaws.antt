@@ -1,8 +1,8 @@
 -- Tables and rows, put together from their parts.
 use Rattle.std.proofs.Common.{true, ◌≡◌, ℕ, ◌+◌, List, [], ◌∷◌, ◌++◌, length, Option, Some, refl, arith}
-use Rattle.feature_expr.specs.Value.{kind_of}
-use Rattle.feature_expr.specs.declared.token.Token.{Token}
-use Rattle.feature_expr.specs.declared.value.Value.{Value}
+use Rattle.values.specs.Value.{kind_of}
+use Rattle.word_tokens.specs.declared.token.Token.{Token}
+use Rattle.values.specs.declared.value.Value.{Value}
 use Rattle.vschema.specs.Words.{stands, value_at, line_number}
 use Rattle.vschema.specs.Spelling.{no_cells, NewCell, IsCell, IsTail, IsColumn, ColumnsBefore, AreColumns, NewTable, IsTable, AreCells, IsTableName, IsRow, EntriesTo}
 use Rattle.vschema.specs.Faults.{TailFault, TableFault, in_table_tail, RowFault, in_row_tail, EntryFault, EntriesFault}

@@ -1,7 +1,7 @@
 -- A file is one catalogue alone, and then it has no fault, or it has one fault.
 use Rattle.std.proofs.Common.{◌≡◌, ◌≢◌, ℕ, List, Ok, Err, sym, ap, ◌∙◌, refl}
 use Rattle.std.specs.Str.{IsUtf8}
-use Rattle.feature_expr.specs.declared.token.Token.{Token}
+use Rattle.word_tokens.specs.declared.token.Token.{Token}
 use Rattle.feature_expr.proofs.OneLaws.{one_tokens}
 use Rattle.vschema.specs.Files.{IsCatalogue}
 use Rattle.vschema.specs.Refusals.{refused_at, IsRefused, Refuses, GivesCatalogue, GivesFileFault}

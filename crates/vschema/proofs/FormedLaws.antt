@@ -10,16 +10,17 @@ use Rattle.std.proofs.lemmas.List.Folds.{list_all-append, list_any-append}
 use Rattle.std.proofs.lemmas.List.Quantifiers.{position-Some}
 use Rattle.std.proofs.lemmas.Slice.Eq.{bytes_eq-Decides}
 use Rattle.std.proofs.lemmas.Str.Ascii.{lowercase-lowercase, lowercase_is}
-use Rattle.feature_expr.specs.Names.{starts_word, continues_word, is_word_of, reserved_words, is_reserved_word, is_name_of, among}
-use Rattle.feature_expr.specs.Value.{kind_of}
-use Rattle.feature_expr.specs.Tokens.{bytes_of}
+use Rattle.word_tokens.specs.Words.{starts_word, continues_word, is_word_of, reserved_words, is_reserved_word, is_name_of}
+use Rattle.feature_expr.specs.Names.{among}
+use Rattle.values.specs.Value.{kind_of}
+use Rattle.word_tokens.specs.Tokens.{bytes_of}
 use Rattle.feature_expr.specs.ExprGrammar.{Part, Disjunction, Conjunction, Negation, feature_of, Spells, one_conjunction, disjunction, one_negation, conjunction, negation, truth, falsehood, feature, brackets}
 use Rattle.feature_expr.specs.declared.expr.Expr.{Expr, fold-roll-Expr}
 use Rattle.feature_expr.specs.declared.expr.Expr as e
 use Rattle.feature_expr.specs.declared.expr.Expr.TheOpen.{Expr-F}
-use Rattle.feature_expr.specs.declared.token.Token.{Token}
-use Rattle.feature_expr.specs.declared.value.Value.{Value}
-use Rattle.vschema.specs.Limits.{most_tables}
+use Rattle.word_tokens.specs.declared.token.Token.{Token}
+use Rattle.values.specs.declared.value.Value.{Value}
+use Rattle.vschema.specs.Limits.{table_limit}
 use Rattle.vschema.specs.Formed.{below_step, features_below, distinct, table_names, column_names, has_names, column_features_below, table_features_below, row_features_below, has_distinct_columns, CellsFit, FitsTable, RowFits, IsFormed}
 use Rattle.vschema.specs.Words.{spelled_name_at, lower, folded_at}
 use Rattle.vschema.specs.Spelling.{column_place, table_place, IsModel, no_model, some_model, IsWhen, no_when, some_when, IsColumn, ColumnsBefore, no_column_yet, another_column, AreColumns, IsTable, no_cells, CellsBefore, no_cell_yet, another_cell, AreCells, IsRow, IsEntry, tables_with, rows_with, EntriesTo, no_entry_yet, another_entry, SpellCatalogue}
@@ -288,7 +289,7 @@ module _ (names : List (List ℕ)) (text : List ℕ) (tokens : List Token) where
 
   -- tables and rows that are formed
   record Entries (tables : List Table) (rows : List OpeningRow) : Type 0 where
-    pub within : length tables ≤ most_tables
+    pub within : length tables ≤ table_limit
     pub named : list_all has_names tables ≡ true
     pub tables_known : list_all (table_features_below (length names)) tables ≡ true
     pub rows_known : list_all (row_features_below (length names)) rows ≡ true

@@ -2,14 +2,15 @@
 use Rattle.std.proofs.Common.{Bool, true, false, ◌≡◌, ◌≤◌, ℕ, ◌+◌, List, [], ◌∷◌, ◌++◌, length, Some, None, Option, slice_get, nat_lt, append_assoc, refl, arith}
 use Rattle.std.proofs.lemmas.Bool.Decides.{nat_tests}
 use Rattle.std.proofs.lemmas.List.{append-nil, length-append}
-use Rattle.feature_expr.specs.Names.{is_name_of, among, refusal, refusal_from}
+use Rattle.word_tokens.specs.Words.{is_name_of}
+use Rattle.feature_expr.specs.Names.{among, refusal, refusal_from}
 use Rattle.feature_expr.specs.Config.{feature_limit}
 use Rattle.feature_expr.specs.declared.features.FeaturesRefused.{FeaturesRefused}
 use Rattle.feature_expr.specs.declared.features.FeaturesRefused.TheVariants as features_refused
-use Rattle.feature_expr.specs.declared.token.Token.{Token}
-use Rattle.feature_expr.specs.declared.token.TokenKind.{TokenKind}
-use Rattle.feature_expr.specs.declared.token.TokenKind.TheVariants as token_kind
-use Rattle.feature_expr.specs.Tokens.{bytes_of}
+use Rattle.word_tokens.specs.declared.token.Token.{Token}
+use Rattle.word_tokens.specs.declared.token.TokenKind.{TokenKind}
+use Rattle.word_tokens.specs.declared.token.TokenKind.TheVariants as token_kind
+use Rattle.word_tokens.specs.Tokens.{bytes_of}
 use Rattle.vschema.specs.Words.{stands, spelled_name_at, name_of, name_of_kind}
 use Rattle.vschema.specs.Spelling.{NewFeature, FeaturesBefore, no_feature_yet, another_feature, IsHead, no_features, some_features}
 use Rattle.vschema.specs.declared.words.Sign.TheVariants as sign

@@ -3,8 +3,8 @@
 use Rattle.std.proofs.Common.{◌≡◌, ◌≢◌, ℕ, ◌+◌, ◌<◌, ◌==◌, true, false, List, [], length, Ok, Err, ap, subst, refl, arith}
 use Rattle.std.proofs.lemmas.Bool.Decides.{nat_tests}
 use Rattle.feature_expr.specs.declared.expr.Expr.{Expr}
-use Rattle.feature_expr.specs.declared.token.Token.{Token}
-use Rattle.vschema.specs.Limits.{most_tables}
+use Rattle.word_tokens.specs.declared.token.Token.{Token}
+use Rattle.vschema.specs.Limits.{table_limit}
 use Rattle.vschema.specs.Faults.{TableNameFault, table_name_memory, no_table_name, table_again, one_table_more, TableFault, at_table_name, table_unopened, in_columns, in_table_tail, RowNameFault, row_name_memory, no_row_name, no_such_table, RowFault, at_row_name, row_unopened, in_cells, in_row_tail, EntryFault, entry_memory, in_table, in_row, no_entry, FileFault, catalogue_memory, in_head, at_model, in_entries}
 use Rattle.vschema.specs.Spelling.{IsTable, IsRow, IsEntry, tables_with, rows_with, EntriesTo, no_entry_yet, another_entry, SpellCatalogue}
 use Rattle.vschema.specs.Words.{stands, line_number}
@@ -34,22 +34,22 @@ same_row row line is = ap (λ (number : ℕ). record { table = row.table; cells 
 module _ (text : List ℕ) (tokens : List Token) where
   reads_table : (names : List (List ℕ)) (tables : List Table) (at : ℕ) (table : Table) (end : ℕ) → IsTable names text tokens tables at table end → (k : Table → ℕ → Program) (a : Answer) → R text tokens (k table end) a → R text tokens (Ask (ATable names tables at) k) a
   reads_table names tables at table end d k a r =
-      asks (ATable names tables at) k a (rw (d.is_new.named, d.is_new.fresh, below (length tables) most_tables d.is_new.within, d.opens) (reads_columns text tokens names (at + 3) table.columns d.behind d.columns _ a (reads_tail text tokens names d.behind table.cond end d.tail _ a r)))
+      asks (ATable names tables at) k a (rw (d.is_new.named, d.is_new.fresh, below (length tables) table_limit d.is_new.within, d.opens) (reads_columns text tokens names (at + 3) table.columns d.behind d.columns _ a (reads_tail text tokens names d.behind table.cond end d.tail _ a r)))
 
   fails_table_name : (names : List (List ℕ)) (tables : List Table) (at : ℕ) (why : CatalogFault) → TableNameFault text tokens tables (at + 1) why → why ≢ fault.Memory → (k : Table → ℕ → Program) → R text tokens (Ask (ATable names tables at) k) (Err why)
   fails_table_name names tables at why table_name_memory other k = absurd (other refl)
   fails_table_name names tables at why (no_table_name none) other k = asks (ATable names tables at) k (Err why) (rw none (ends (Err why)))
   fails_table_name names tables at why (table_again name place named again) other k = asks (ATable names tables at) k (Err why) (rw (named, again) (ends (Err why)))
-  fails_table_name names tables at why (one_table_more name named fresh full) other k = asks (ATable names tables at) k (Err why) (rw (named, fresh, above (length tables) most_tables full) (ends (Err why)))
+  fails_table_name names tables at why (one_table_more name named fresh full) other k = asks (ATable names tables at) k (Err why) (rw (named, fresh, above (length tables) table_limit full) (ends (Err why)))
 
   fails_table : (names : List (List ℕ)) (tables : List Table) (at : ℕ) (why : CatalogFault) → TableFault names text tokens tables at why → why ≢ fault.Memory → (k : Table → ℕ → Program) → R text tokens (Ask (ATable names tables at) k) (Err why)
   fails_table names tables at why (at_table_name w f) other k = fails_table_name names tables at why f other k
   fails_table names tables at why (table_unopened name new missing) other k =
-      asks (ATable names tables at) k (Err why) (rw (new.named, new.fresh, below (length tables) most_tables new.within, missing) (ends (Err why)))
+      asks (ATable names tables at) k (Err why) (rw (new.named, new.fresh, below (length tables) table_limit new.within, missing) (ends (Err why)))
   fails_table names tables at why (in_columns name w new opens f) other k =
-      asks (ATable names tables at) k (Err why) (rw (new.named, new.fresh, below (length tables) most_tables new.within, opens) (fails_columns text tokens names (at + 3) why f other _))
+      asks (ATable names tables at) k (Err why) (rw (new.named, new.fresh, below (length tables) table_limit new.within, opens) (fails_columns text tokens names (at + 3) why f other _))
   fails_table names tables at why (in_table_tail name columns behind w new opens d f) other k =
-      asks (ATable names tables at) k (Err why) (rw (new.named, new.fresh, below (length tables) most_tables new.within, opens) (reads_columns text tokens names (at + 3) columns behind d _ (Err why) (fails_tail text tokens names behind why f other _)))
+      asks (ATable names tables at) k (Err why) (rw (new.named, new.fresh, below (length tables) table_limit new.within, opens) (reads_columns text tokens names (at + 3) columns behind d _ (Err why) (fails_tail text tokens names behind why f other _)))
 
   reads_row : (names : List (List ℕ)) (tables : List Table) (at : ℕ) (row : OpeningRow) (end : ℕ) → IsRow names text tokens tables at row end → (k : OpeningRow → ℕ → Program) (a : Answer) → R text tokens (k row end) a → R text tokens (Ask (ARow names tables at) k) a
   reads_row names tables at row end d k a r =

@@ -2,14 +2,14 @@
 -- so is each fault.
 use Rattle.std.proofs.Common.{◌≡◌, ◌≢◌, ℕ, ◌+◌, ◌<◌, ◌≤◌, Bool, true, false, nat_lt, List, [], length, set, Option, Some, Err, sym, refl, arith}
 use Rattle.std.proofs.lemmas.Bool.Decides.{nat_tests}
-use Rattle.feature_expr.specs.Value.{kind_of}
+use Rattle.values.specs.Value.{kind_of}
 use Rattle.feature_expr.specs.Config.{feature_limit}
 use Rattle.feature_expr.specs.declared.expr.Expr.{Expr}
-use Rattle.feature_expr.specs.declared.token.Token.{Token}
-use Rattle.feature_expr.specs.declared.value.Kind.{Kind}
-use Rattle.feature_expr.specs.declared.value.Kind.TheVariants as kind
-use Rattle.feature_expr.specs.declared.value.Value.{Value}
-use Rattle.vschema.specs.Limits.{most_columns}
+use Rattle.word_tokens.specs.declared.token.Token.{Token}
+use Rattle.values.specs.declared.value.Kind.{Kind}
+use Rattle.values.specs.declared.value.Kind.TheVariants as kind
+use Rattle.values.specs.declared.value.Value.{Value}
+use Rattle.vschema.specs.Limits.{column_limit}
 use Rattle.vschema.specs.Faults.{FeatureFault, feature_memory, no_feature_name, feature_again, one_feature_more, HeadFault, head_memory, no_features_word, at_feature, features_unended, ModelFault, in_model, model_unended, WhenFault, TailFault, in_tail_condition, tail_unended, ColumnNameFault, column_name_memory, no_column_name, column_again, one_column_more, ColumnFault, column_memory, at_column_name, no_kind, in_column_condition, ColumnsFault, columns_memory, at_column, columns_unclosed, CellNameFault, cell_name_memory, no_cell_name, no_such_column, cell_again, CellFault, cell_memory, at_cell_name, no_value, another_kind, CellsFault, cells_memory, at_cell, cells_unclosed}
 use Rattle.vschema.specs.Spelling.{NewFeature, FeaturesBefore, no_feature_yet, another_feature, IsHead, no_features, some_features, IsModel, no_model, some_model, IsWhen, no_when, some_when, IsTail, IsColumn, ColumnsBefore, no_column_yet, another_column, AreColumns, no_cells, IsCell, CellsBefore, no_cell_yet, another_cell, AreCells}
 use Rattle.vschema.specs.Words.{stands, spelled_name_at}
@@ -117,20 +117,20 @@ module _ (text : List ℕ) (tokens : List Token) where
 
   reads_column : (names : List (List ℕ)) (columns : List Column) (at : ℕ) (column : Column) (end : ℕ) → IsColumn names text tokens columns at column end → (k : Column → ℕ → Program) (a : Answer) → R (k column end) a → R (Ask (AColumn names columns at) k) a
   reads_column names columns at column end d k a r =
-      asks (AColumn names columns at) k a (rw (d.is_new.named, d.is_new.fresh, below (length columns) most_columns d.is_new.within, d.kind) (reads_when names 1 (at + 2) column.cond end d.condition _ a r))
+      asks (AColumn names columns at) k a (rw (d.is_new.named, d.is_new.fresh, below (length columns) column_limit d.is_new.within, d.kind) (reads_when names 1 (at + 2) column.cond end d.condition _ a r))
 
   fails_column_name : (names : List (List ℕ)) (columns : List Column) (at : ℕ) (why : CatalogFault) → ColumnNameFault text tokens columns at why → why ≢ fault.Memory → (k : Column → ℕ → Program) → R (Ask (AColumn names columns at) k) (Err why)
   fails_column_name names columns at why column_name_memory other k = absurd (other refl)
   fails_column_name names columns at why (no_column_name none) other k = asks (AColumn names columns at) k (Err why) (rw none (ends (Err why)))
   fails_column_name names columns at why (column_again name place named again) other k = asks (AColumn names columns at) k (Err why) (rw (named, again) (ends (Err why)))
-  fails_column_name names columns at why (one_column_more name named fresh full) other k = asks (AColumn names columns at) k (Err why) (rw (named, fresh, above (length columns) most_columns full) (ends (Err why)))
+  fails_column_name names columns at why (one_column_more name named fresh full) other k = asks (AColumn names columns at) k (Err why) (rw (named, fresh, above (length columns) column_limit full) (ends (Err why)))
 
   fails_column : (names : List (List ℕ)) (columns : List Column) (at : ℕ) (why : CatalogFault) → ColumnFault names text tokens columns at why → why ≢ fault.Memory → (k : Column → ℕ → Program) → R (Ask (AColumn names columns at) k) (Err why)
   fails_column names columns at why column_memory other k = absurd (other refl)
   fails_column names columns at why (at_column_name w f) other k = fails_column_name names columns at why f other k
-  fails_column names columns at why (no_kind name new none) other k = asks (AColumn names columns at) k (Err why) (rw (new.named, new.fresh, below (length columns) most_columns new.within, none) (ends (Err why)))
+  fails_column names columns at why (no_kind name new none) other k = asks (AColumn names columns at) k (Err why) (rw (new.named, new.fresh, below (length columns) column_limit new.within, none) (ends (Err why)))
   fails_column names columns at why (in_column_condition name its_kind w new kinded f) other k =
-      asks (AColumn names columns at) k (Err why) (rw (new.named, new.fresh, below (length columns) most_columns new.within, kinded) (fails_when names 1 (at + 2) why f other _))
+      asks (AColumn names columns at) k (Err why) (rw (new.named, new.fresh, below (length columns) column_limit new.within, kinded) (fails_when names 1 (at + 2) why f other _))
 
   -- what goes on behind some columns goes on from the first
   reads_columns_before : (names : List (List ℕ)) (from : ℕ) (columns : List Column) (at : ℕ) → ColumnsBefore names text tokens from columns at → (k : List Column → ℕ → Program) (a : Answer) → R (Ask (MoreColumns names columns at) k) a → R (Ask (MoreColumns names [] from) k) a

@@ -2,15 +2,15 @@
 -- file, and a program has one answer.
 use Rattle.std.proofs.Common.{◌≡◌, ◌≢◌, ℕ, ◌+◌, ◌==◌, Bool, true, false, nat_lt, is_some, List, [], ◌∷◌, ◌++◌, length, set, slice_get, Option, Some, None, Result, Err, refl}
 use Rattle.feature_expr.specs.Names.{among}
-use Rattle.feature_expr.specs.Value.{kind_of}
+use Rattle.values.specs.Value.{kind_of}
 use Rattle.feature_expr.specs.Config.{feature_limit}
 use Rattle.feature_expr.specs.declared.expr.Expr.{Expr}
 use Rattle.feature_expr.specs.declared.expr.Expr as e
-use Rattle.feature_expr.specs.declared.token.Token.{Token}
-use Rattle.feature_expr.specs.declared.value.Kind.{Kind}
-use Rattle.feature_expr.specs.declared.value.Kind.TheVariants as kind
-use Rattle.feature_expr.specs.declared.value.Value.{Value}
-use Rattle.vschema.specs.Limits.{most_tables, most_columns}
+use Rattle.word_tokens.specs.declared.token.Token.{Token}
+use Rattle.values.specs.declared.value.Kind.{Kind}
+use Rattle.values.specs.declared.value.Kind.TheVariants as kind
+use Rattle.values.specs.declared.value.Value.{Value}
+use Rattle.vschema.specs.Limits.{table_limit, column_limit}
 use Rattle.vschema.specs.Faults.{ExpressionFault}
 use Rattle.vschema.specs.Spelling.{column_place, table_place, IsExpression, no_cells, has_value}
 use Rattle.vschema.specs.Words.{stands, spelled_name_at, folded_at, kind_at, value_at, line_number}
@@ -110,12 +110,12 @@ module _ (text : List ℕ) (tokens : List Token) where
   body (AWhen names n at) k = choose (is at sign.When) (AskExpression names n (at + 1) k) (k e.True at)
   body (ATail names at) k = Ask (AWhen names 0 at) (up_to_semicolon k)
   body (AColumn names before at) k =
-      another (folded_at text tokens at) (λ name. is_some (column_place name before)) (nat_lt (length before) most_columns) at which.Columns (λ name.
+      another (folded_at text tokens at) (λ name. is_some (column_place name before)) (nat_lt (length before) column_limit) at which.Columns (λ name.
       given (kind_at text tokens (at + 1)) (λ its_kind. Ask (AWhen names 1 (at + 2)) (λ condition end. k (record { name = name; kind = its_kind; cond = condition }) end)) (fault.Syntax (at + 1)))
   body (MoreColumns names before at) k =
       Ask (AColumn names before at) (λ column end. choose (is end sign.Comma) (Ask (MoreColumns names (before ++ column ∷ []) (end + 1)) k) (need (is end sign.Close) end (k (before ++ column ∷ []) (end + 1))))
   body (ATable names tables at) k =
-      another (folded_at text tokens (at + 1)) (λ name. is_some (table_place name tables)) (nat_lt (length tables) most_tables) (at + 1) which.Tables (λ name.
+      another (folded_at text tokens (at + 1)) (λ name. is_some (table_place name tables)) (nat_lt (length tables) table_limit) (at + 1) which.Tables (λ name.
       need (is (at + 2) sign.Open) (at + 2) (Ask (MoreColumns names [] (at + 3)) (λ columns behind. Ask (ATail names behind) (λ condition end. k (record { name = name; columns = columns; cond = condition }) end))))
   body (ACell columns before at) k =
       given (folded_at text tokens at) (λ name. given (column_place name columns) (λ place. choose (has_value before place) (Fails (fault.Duplicate at)) (given (slice_get columns place) (λ column.

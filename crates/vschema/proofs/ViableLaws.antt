@@ -6,18 +6,18 @@ use Rattle.std.proofs.lemmas.Option.{slice_get_past}
 use Rattle.std.proofs.lemmas.Bool.{and_parts}
 use Rattle.std.proofs.lemmas.Bool.Decides.{nat_tests}
 use Rattle.std.proofs.lemmas.Slice.Eq.{bytes_eq-Decides}
-use Rattle.feature_expr.specs.Names.{same_word_as}
-use Rattle.feature_expr.specs.Tokens.{bytes_of, is_word, is_mark, is_word_of_text, is_mark_of_text}
-use Rattle.feature_expr.specs.Grammar.{Terminal, Nonterminal, AnyOf, IsFree, FaultAt}
-use Rattle.feature_expr.specs.GrammarLaws.{here, open_part, close_part, open_sign, close_sign}
+use Rattle.word_tokens.specs.Words.{same_word_as}
+use Rattle.word_tokens.specs.Tokens.{bytes_of, is_word, is_mark, is_word_of_text, is_mark_of_text}
+use Rattle.word_tokens.specs.Grammar.{Terminal, Nonterminal, AnyOf, IsFree, FaultAt}
+use Rattle.word_tokens.proofs.GrammarLaws.{here, open_part, close_part, open_sign, close_sign}
 use Rattle.feature_expr.specs.ExprGrammar.{Part, Mark, Foreign, Outer, Disjunction, signs_of, forms, fits, sign_of_word, sign_at, IsRefused, sign_of_token, sign_of_kind, sign_of_mark}
 use Rattle.feature_expr.specs.declared.expr.Expr.{Expr}
 use Rattle.feature_expr.specs.declared.parse.Fault.{Fault}
 use Rattle.feature_expr.specs.declared.parse.Fault.TheVariants as expr_fault
-use Rattle.feature_expr.specs.declared.token.Token.{Token}
-use Rattle.feature_expr.specs.declared.token.TokenKind.{TokenKind}
-use Rattle.feature_expr.specs.declared.token.TokenKind.TheVariants as token_kind
-use Rattle.vschema.specs.Limits.{deepest_nesting}
+use Rattle.word_tokens.specs.declared.token.Token.{Token}
+use Rattle.word_tokens.specs.declared.token.TokenKind.{TokenKind}
+use Rattle.word_tokens.specs.declared.token.TokenKind.TheVariants as token_kind
+use Rattle.feature_expr.specs.Nesting.{nesting_limit}
 use Rattle.vschema.specs.Words.{stands, name_of, name_of_kind, spelled_name_at}
 use Rattle.vschema.specs.Spelling.{IsExpression}
 use Rattle.vschema.specs.Faults.{fault_of}
@@ -95,7 +95,7 @@ module _ (text : List ℕ) where
   two_marks one other None apart is is' = cc is
 
 abbrev pub grammar : Part → List Form
-grammar = forms outer deepest_nesting
+grammar = forms outer nesting_limit
 
 module _ (text : List ℕ) (tokens : List Token) where
   abbrev pub token_fits : Mark → ℕ → Type 0
@@ -285,7 +285,7 @@ module _ (text : List ℕ) (tokens : List Token) where
   -- behind an expression
   pub expression_ends : (names : List (List ℕ)) (nesting at end : ℕ) (expr : Expr) (symbols : Form) → IsExpression names text tokens nesting at expr end → IsFree grammar token_fits (signs_of (Disjunction nesting)) symbols → Stands (Expression nesting ∷ symbols) at → Stands symbols end
   expression_ends names nesting at end expr symbols is free s =
-      let l = is.read outer (fitting text tokens) deepest_nesting (omega arith) in
+      let l = is.read outer (fitting text tokens) nesting_limit (omega arith) in
       record {
         on = λ to later v. l.on symbols to free later (s.on to (omega (arith, l.order, later)) v);
         back = λ to m. s.back to (l.back symbols to m);
@@ -297,8 +297,8 @@ module _ (text : List ℕ) (tokens : List Token) where
     never = λ to later v. f.never symbols to free later (s.on to (omega (arith, f.reaches.order, later)) v);
   }
 
-  pub expression_refused : (names : List (List ℕ)) (nesting at : ℕ) (inner : Fault) (symbols : Form) → IsRefused names text tokens deepest_nesting (Disjunction nesting) at inner → IsFree grammar token_fits (signs_of (Disjunction nesting)) symbols → Stands (Expression nesting ∷ symbols) at → IsViableFault text tokens (fault_of inner)
-  expression_refused names nesting at (expr_fault.Syntax place) symbols r free s = fault_in nesting at place symbols free (r outer (fitting text tokens) deepest_nesting (omega arith)) s
+  pub expression_refused : (names : List (List ℕ)) (nesting at : ℕ) (inner : Fault) (symbols : Form) → IsRefused names text tokens nesting_limit (Disjunction nesting) at inner → IsFree grammar token_fits (signs_of (Disjunction nesting)) symbols → Stands (Expression nesting ∷ symbols) at → IsViableFault text tokens (fault_of inner)
+  expression_refused names nesting at (expr_fault.Syntax place) symbols r free s = fault_in nesting at place symbols free (r outer (fitting text tokens) nesting_limit (omega arith)) s
   expression_refused names nesting at (expr_fault.TooDeep place) symbols r free s = fault_in nesting at place symbols free (r.0 outer (fitting text tokens)) s
   expression_refused names nesting at (expr_fault.UnknownFeature place) symbols r free s = s.back (place + 1) ((r.0 outer (fitting text tokens)).viable symbols)
   expression_refused names nesting at expr_fault.Memory symbols r free s = tt

@@ -1,9 +1,9 @@
 -- The grammar of a catalogue's file, round that of feature expressions, and up to which token a file goes on it.
 use Rattle.std.specs.Prelude.{Bool, false, ℕ, ◌+◌, ◌<◌, ◌==◌, if◌then◌else◌, List, [], ◌∷◌, length, is_some}
-use Rattle.feature_expr.specs.Grammar.{Symbol, Terminal, Nonterminal, Matches}
+use Rattle.word_tokens.specs.Grammar.{Symbol, Terminal, Nonterminal, Matches}
 use Rattle.feature_expr.specs.ExprGrammar.{Part, Mark, Outer, Foreign, Disjunction, forms, fits}
-use Rattle.feature_expr.specs.declared.token.Token.{Token}
-use Rattle.vschema.specs.Limits.{deepest_nesting}
+use Rattle.word_tokens.specs.declared.token.Token.{Token}
+use Rattle.feature_expr.specs.Nesting.{nesting_limit}
 use Rattle.vschema.specs.Words.{stands, spelled_name_at, kind_at, value_at}
 use Rattle.vschema.specs.declared.fault.CatalogFault.{CatalogFault}
 use Rattle.vschema.specs.declared.fault.CatalogFault.TheVariants as fault
@@ -119,7 +119,7 @@ outer number nesting =
 
 -- these open symbols match the tokens from one place to another
 abbrev pub Goes : List ℕ → List Token → Form → ℕ → ℕ → Type 0
-Goes text tokens symbols at to = Matches (forms outer deepest_nesting) (fits (fitting text tokens) text tokens) symbols at to
+Goes text tokens symbols at to = Matches (forms outer nesting_limit) (fits (fitting text tokens) text tokens) symbols at to
 
 -- so many tokens begin a catalogue. The end of the text counts as a token, so that one token more than there are make a
 -- whole one.

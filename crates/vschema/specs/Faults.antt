@@ -2,16 +2,17 @@
 -- `Spelling` says it; want of memory may come anywhere.
 use Rattle.std.specs.Prelude.{true, false, ◌≡◌, ◌≢◌, ℕ, ◌+◌, ◌<◌, ◌≤◌, List, length, Option, Some, None}
 use Rattle.feature_expr.specs.Names.{among}
-use Rattle.feature_expr.specs.Value.{kind_of}
+use Rattle.values.specs.Value.{kind_of}
 use Rattle.feature_expr.specs.ExprGrammar.{Disjunction, IsRefused, IsFirst}
 use Rattle.feature_expr.specs.Config.{feature_limit}
 use Rattle.feature_expr.specs.declared.expr.Expr.{Expr}
 use Rattle.feature_expr.specs.declared.parse.Fault.{Fault}
 use Rattle.feature_expr.specs.declared.parse.Fault.TheVariants as expr_fault
-use Rattle.feature_expr.specs.declared.token.Token.{Token}
-use Rattle.feature_expr.specs.declared.value.Kind.{Kind}
-use Rattle.feature_expr.specs.declared.value.Value.{Value}
-use Rattle.vschema.specs.Limits.{most_tables, most_columns, deepest_nesting}
+use Rattle.word_tokens.specs.declared.token.Token.{Token}
+use Rattle.values.specs.declared.value.Kind.{Kind}
+use Rattle.values.specs.declared.value.Value.{Value}
+use Rattle.vschema.specs.Limits.{table_limit, column_limit}
+use Rattle.feature_expr.specs.Nesting.{nesting_limit}
 use Rattle.vschema.specs.Words.{stands, spelled_name_at, folded_at, kind_at, value_at}
 use Rattle.vschema.specs.Spelling.{column_place, table_place, NewFeature, FeaturesBefore, IsHead, IsExpression, IsModel, IsWhen, NewColumn, IsColumn, ColumnsBefore, AreColumns, NewTable, has_value, NewCell, IsCell, CellsBefore, AreCells, IsTableName, EntriesTo}
 use Rattle.vschema.specs.declared.catalog.Column.{Column}
@@ -38,7 +39,7 @@ IsSyntaxAt at _ cause = ⊥
 pub record ExpressionFault (names : List (List ℕ)) (text : List ℕ) (tokens : List Token) (nesting at : ℕ) (why : CatalogFault) : Type 0 where
   pub inner : Fault
   pub is : why ≡ fault_of inner
-  pub refused : IsRefused names text tokens deepest_nesting (Disjunction nesting) at inner
+  pub refused : IsRefused names text tokens nesting_limit (Disjunction nesting) at inner
   pub first : IsFirst names text tokens at inner
 
 -- at the name of a feature
@@ -75,7 +76,7 @@ pub data ColumnNameFault (text : List ℕ) (tokens : List Token) (columns : List
   column_name_memory : ColumnNameFault text tokens columns at fault.Memory
   no_column_name : folded_at text tokens at ≡ None → ColumnNameFault text tokens columns at (fault.Syntax at)
   column_again : (name : List ℕ) (place : ℕ) → folded_at text tokens at ≡ Some name → column_place name columns ≡ Some place → ColumnNameFault text tokens columns at (fault.Duplicate at)
-  one_column_more : (name : List ℕ) → folded_at text tokens at ≡ Some name → column_place name columns ≡ None → most_columns ≤ length columns → ColumnNameFault text tokens columns at (fault.Limit at which.Columns)
+  one_column_more : (name : List ℕ) → folded_at text tokens at ≡ Some name → column_place name columns ≡ None → column_limit ≤ length columns → ColumnNameFault text tokens columns at (fault.Limit at which.Columns)
 
 -- in a column of a table
 pub data ColumnFault (names : List (List ℕ)) (text : List ℕ) (tokens : List Token) (columns : List Column) (at : ℕ) : CatalogFault → Type 0 where
@@ -95,7 +96,7 @@ pub data TableNameFault (text : List ℕ) (tokens : List Token) (tables : List T
   table_name_memory : TableNameFault text tokens tables at fault.Memory
   no_table_name : folded_at text tokens at ≡ None → TableNameFault text tokens tables at (fault.Syntax at)
   table_again : (name : List ℕ) (place : ℕ) → folded_at text tokens at ≡ Some name → table_place name tables ≡ Some place → TableNameFault text tokens tables at (fault.Duplicate at)
-  one_table_more : (name : List ℕ) → folded_at text tokens at ≡ Some name → table_place name tables ≡ None → most_tables ≤ length tables → TableNameFault text tokens tables at (fault.Limit at which.Tables)
+  one_table_more : (name : List ℕ) → folded_at text tokens at ≡ Some name → table_place name tables ≡ None → table_limit ≤ length tables → TableNameFault text tokens tables at (fault.Limit at which.Tables)
 
 -- in a table, from the word `table` on
 pub data TableFault (names : List (List ℕ)) (text : List ℕ) (tokens : List Token) (tables : List Table) (at : ℕ) : CatalogFault → Type 0 where

@@ -1,8 +1,8 @@
 -- Files that are catalogues.
 use Rattle.std.specs.Prelude.{ℕ, ◌+◌, List, length}
 use Rattle.std.specs.Str.{IsUtf8}
-use Rattle.feature_expr.specs.Tokens.{AreTokens}
-use Rattle.feature_expr.specs.declared.token.Token.{Token}
+use Rattle.word_tokens.specs.Tokens.{AreTokens}
+use Rattle.word_tokens.specs.declared.token.Token.{Token}
 use Rattle.vschema.specs.CatalogueGrammar.{IsViable}
 use Rattle.vschema.specs.Spelling.{SpellCatalogue}
 use Rattle.vschema.specs.declared.catalog.Catalog.{Catalog}

@@ -2,11 +2,12 @@
 -- no table, a feature that has no name.
 use Rattle.std.specs.Prelude.{Bool, true, false, not, ◌≡◌, ◌&&◌, ◌<◌, ◌^◌, ℕ, List, [], ◌∷◌, map, length, Option, Some, None, slice_get, nat_lt}
 use Rattle.std.specs.List.{All, list_all}
-use Rattle.feature_expr.specs.Names.{is_name_of, among}
-use Rattle.feature_expr.specs.Value.{kind_of}
+use Rattle.word_tokens.specs.Words.{is_name_of}
+use Rattle.feature_expr.specs.Names.{among}
+use Rattle.values.specs.Value.{kind_of}
 use Rattle.feature_expr.specs.declared.expr.Expr.{Expr, fold-Expr}
 use Rattle.feature_expr.specs.declared.expr.Expr.TheOpen.{Expr-F}
-use Rattle.feature_expr.specs.declared.value.Value.{Value}
+use Rattle.values.specs.declared.value.Value.{Value}
 use Rattle.vschema.specs.declared.catalog.Catalog.{Catalog}
 use Rattle.vschema.specs.declared.catalog.Column.{Column}
 use Rattle.vschema.specs.declared.catalog.OpeningRow.{OpeningRow}

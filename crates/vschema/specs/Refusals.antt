@@ -2,8 +2,8 @@
 use Rattle.std.specs.Prelude.{◌≡◌, ◌≢◌, ℕ, List, Result, Ok, Err}
 use Rattle.std.specs.Str.{IsUtf8}
 use Rattle.std.specs.Str.Lossy.{utf8_valid_len}
-use Rattle.feature_expr.specs.Tokens.{AreTokens}
-use Rattle.feature_expr.specs.declared.token.Token.{Token}
+use Rattle.word_tokens.specs.Tokens.{AreTokens}
+use Rattle.word_tokens.specs.declared.token.Token.{Token}
 use Rattle.vschema.specs.Words.{line_number}
 use Rattle.vschema.specs.CatalogueGrammar.{IsViableFault}
 use Rattle.vschema.specs.Faults.{FileFault}

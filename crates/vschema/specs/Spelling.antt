@@ -3,14 +3,15 @@
 use Rattle.std.specs.Prelude.{Bool, true, false, ◌≡◌, ℕ, ◌+◌, ◌<◌, List, [], ◌∷◌, ◌++◌, length, map, Option, Some, None, position, set, slice_get, is_some}
 use Rattle.std.specs.Str.{bytes_eq}
 use Rattle.feature_expr.specs.Names.{among}
-use Rattle.feature_expr.specs.Value.{kind_of}
+use Rattle.values.specs.Value.{kind_of}
 use Rattle.feature_expr.specs.ExprGrammar.{Disjunction, IsRead, Spells}
 use Rattle.feature_expr.specs.Config.{feature_limit}
 use Rattle.feature_expr.specs.declared.expr.Expr.{Expr}
 use Rattle.feature_expr.specs.declared.expr.Expr as e
-use Rattle.feature_expr.specs.declared.token.Token.{Token}
-use Rattle.feature_expr.specs.declared.value.Value.{Value}
-use Rattle.vschema.specs.Limits.{most_tables, most_columns, deepest_nesting}
+use Rattle.word_tokens.specs.declared.token.Token.{Token}
+use Rattle.values.specs.declared.value.Value.{Value}
+use Rattle.vschema.specs.Limits.{table_limit, column_limit}
+use Rattle.feature_expr.specs.Nesting.{nesting_limit}
 use Rattle.vschema.specs.Words.{stands, spelled_name_at, folded_at, kind_at, value_at, line_number}
 use Rattle.vschema.specs.declared.catalog.Catalog.{Catalog}
 use Rattle.vschema.specs.declared.catalog.Column.{Column}
@@ -46,7 +47,7 @@ pub data IsHead (text : List ℕ) (tokens : List Token) : List (List ℕ) → �
 
 -- an expression, where so many brackets are open round it
 pub record IsExpression (names : List (List ℕ)) (text : List ℕ) (tokens : List Token) (nesting at : ℕ) (expr : Expr) (end : ℕ) : Type 0 where
-  pub read : IsRead text tokens deepest_nesting (Disjunction nesting) at end
+  pub read : IsRead text tokens nesting_limit (Disjunction nesting) at end
   pub spelled : Spells names text tokens (Disjunction nesting) at expr end
 
 -- the word `model`, the feature model and a semicolon; a missing model is `true`
@@ -70,7 +71,7 @@ pub record IsTail (names : List (List ℕ)) (text : List ℕ) (tokens : List Tok
 pub record NewColumn (text : List ℕ) (tokens : List Token) (columns : List Column) (at : ℕ) (name : List ℕ) : Type 0 where
   pub named : folded_at text tokens at ≡ Some name
   pub fresh : column_place name columns ≡ None
-  pub within : length columns < most_columns
+  pub within : length columns < column_limit
 
 -- a column behind others: its name, its kind and its condition, inside a bracket
 pub record IsColumn (names : List (List ℕ)) (text : List ℕ) (tokens : List Token) (columns : List Column) (at : ℕ) (column : Column) (end : ℕ) : Type 0 where
@@ -99,7 +100,7 @@ pub record AreColumns (names : List (List ℕ)) (text : List ℕ) (tokens : List
 pub record NewTable (text : List ℕ) (tokens : List Token) (tables : List Table) (at : ℕ) (name : List ℕ) : Type 0 where
   pub named : folded_at text tokens at ≡ Some name
   pub fresh : table_place name tables ≡ None
-  pub within : length tables < most_tables
+  pub within : length tables < table_limit
 
 -- a table behind others, from the word `table` on
 pub record IsTable (names : List (List ℕ)) (text : List ℕ) (tokens : List Token) (tables : List Table) (at : ℕ) (table : Table) (end : ℕ) : Type 0 where
@@ -188,7 +189,7 @@ rows_with rows (entry.Row row) = rows ++ row ∷ []
 
 -- no table before it has an entry's name, and a table is within the limit
 abbrev pub IsFresh : List Table → Entry → Type 0
-IsFresh tables (entry.Table table) = (table_place table.name tables ≡ None) × (length tables < most_tables)
+IsFresh tables (entry.Table table) = (table_place table.name tables ≡ None) × (length tables < table_limit)
 IsFresh tables (entry.Row row) = Unit {0}
 
 -- tables and rows in the file's order, from one place up to another

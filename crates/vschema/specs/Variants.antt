@@ -1,8 +1,8 @@
 -- The variants of a catalogue: which tables and columns each has, and what its tables are before any commit.
 use Rattle.std.specs.Prelude.{Bool, true, false, ◌≡◌, ◌&&◌, ◌==◌, ℕ, List, [], ◌∷◌, map, filter, Option, Some, None, if◌then◌else◌, slice_get}
 use Rattle.feature_expr.specs.Satisfaction.{satisfies}
-use Rattle.feature_expr.specs.declared.column_name.ColName.{ColName}
-use Rattle.feature_expr.specs.declared.value.Value.{Value}
+use Rattle.values.specs.declared.column_name.ColName.{ColName}
+use Rattle.values.specs.declared.value.Value.{Value}
 use Rattle.plain_relation.specs.Relations.{Relation, absent, relation_of}
 use Rattle.plain_relation.specs.Relations as plain
 use Rattle.vschema.specs.declared.catalog.Catalog.{Catalog}

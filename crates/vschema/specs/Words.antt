@@ -1,15 +1,15 @@
 -- What single tokens of a catalogue's file spell.
 use Rattle.std.specs.Prelude.{Bool, true, false, ℕ, if◌then◌else◌, List, map, length, Option, Some, None, codes, slice_get}
 use Rattle.std.specs.Char.{to_ascii_lowercase}
-use Rattle.feature_expr.specs.Names.{is_name_of, same_word_as}
-use Rattle.feature_expr.specs.Tokens.{bytes_of, is_word_at, is_mark_at, line_at}
-use Rattle.feature_expr.specs.declared.token.Token.{Token}
-use Rattle.feature_expr.specs.declared.token.TokenKind.{TokenKind}
-use Rattle.feature_expr.specs.declared.token.TokenKind.TheVariants as token_kind
-use Rattle.feature_expr.specs.declared.value.Kind.{Kind}
-use Rattle.feature_expr.specs.declared.value.Kind.TheVariants as kind
-use Rattle.feature_expr.specs.declared.value.Value.{Value}
-use Rattle.feature_expr.specs.declared.value.Value.TheVariants as value
+use Rattle.word_tokens.specs.Words.{is_name_of, same_word_as}
+use Rattle.word_tokens.specs.Tokens.{bytes_of, is_word_at, is_mark_at, line_at}
+use Rattle.word_tokens.specs.declared.token.Token.{Token}
+use Rattle.word_tokens.specs.declared.token.TokenKind.{TokenKind}
+use Rattle.word_tokens.specs.declared.token.TokenKind.TheVariants as token_kind
+use Rattle.values.specs.declared.value.Kind.{Kind}
+use Rattle.values.specs.declared.value.Kind.TheVariants as kind
+use Rattle.values.specs.declared.value.Value.{Value}
+use Rattle.values.specs.declared.value.Value.TheVariants as value
 use Rattle.vschema.specs.declared.words.Sign.{Sign}
 use Rattle.vschema.specs.declared.words.Sign.TheVariants as sign
 

@@ -1,7 +1,7 @@
 ghost use Rattle.std.specs.Prelude.{◌≡◌, ◌<◌, ◌≤◌, length, IfOk, IfErr};
 ghost use Rattle.vschema.specs.Spelling.{IsEntry, IsFresh, EntriesTo, tables_with, rows_with};
 ghost use Rattle.vschema.specs.Faults.{EntryFault, EntriesFault};
-ghost use Rattle.vschema.specs.declared.parse.TheConstants.{NESTING_LIMIT};
+ghost use Rattle.feature_expr.specs.Nesting.{nesting_limit};
 
 use crate::catalog::{OpeningRow, Table};
 use crate::fault::CatalogFault;
@@ -53,7 +53,7 @@ pub fn parse_entries(
     from: usize,
 ) -> Result<(List<Table>, List<OpeningRow>), CatalogFault>
     requires within { from ≤ length reading.now.tokens.now }
-    requires limit { reading.now.max_nesting ≡ NESTING_LIMIT }
+    requires limit { reading.now.max_nesting ≡ nesting_limit }
     ensures spelled { IfOk result (λ found. EntriesTo reading.now.features.now reading.now.text.now reading.now.tokens.now from found.0 found.1 (length reading.now.tokens.now)) }
     ensures refused { IfErr result (EntriesFault reading.now.features.now reading.now.text.now reading.now.tokens.now from) }
 {
@@ -79,7 +79,7 @@ fn parse_entry(
     tables: &Tables,
 ) -> Result<(Entry, usize), CatalogFault>
     requires within { at < length reading.now.tokens.now }
-    requires limit { reading.now.max_nesting ≡ NESTING_LIMIT }
+    requires limit { reading.now.max_nesting ≡ nesting_limit }
     ensures within { IfOk result (λ found. (at < found.1) × (found.1 ≤ length reading.now.tokens.now)) }
     ensures spelled { IfOk result (λ found. IsEntry reading.now.features.now reading.now.text.now reading.now.tokens.now tables.now.tables.items at found.0 found.1) }
     ensures refused { IfErr result (EntryFault reading.now.features.now reading.now.text.now reading.now.tokens.now tables.now.tables.items at) }

@@ -4,7 +4,6 @@ ghost use Rattle.vschema.specs.Refusals.{Refuses};
 ghost use Rattle.vschema.specs.declared.catalog.Catalog.{Catalog};
 ghost use Rattle.vschema.specs.declared.catalog.OpeningRow.{OpeningRow};
 ghost use Rattle.vschema.specs.declared.columns.TheConstants.{COLUMN_LIMIT};
-ghost use Rattle.vschema.specs.declared.parse.TheConstants.{NESTING_LIMIT};
 ghost use Rattle.vschema.specs.declared.refused.CatalogRefused.{CatalogRefused};
 ghost use Rattle.vschema.specs.declared.refused.CatalogRefused.TheVariants as refused;
 ghost use Rattle.vschema.specs.declared.tables.TheConstants.{TABLE_LIMIT};
@@ -14,7 +13,6 @@ ghost use Rattle.vschema.specs.declared.tables.TheConstants.{TABLE_LIMIT};
 pub fn catalogue_laws()
     ensures tables { TABLE_LIMIT ≡ 256 }
     ensures columns { COLUMN_LIMIT ≡ 64 }
-    ensures nesting { NESTING_LIMIT ≡ 64 }
     // A file is at most one catalogue, with its opening rows.
     ensures one { (bytes : List ℕ) (catalog other : Catalog) (rows other_rows : List OpeningRow) → IsCatalogue bytes catalog rows → IsCatalogue bytes other other_rows → (catalog ≡ other) × (rows ≡ other_rows) }
     // A file that is a catalogue has no fault.

@@ -1,5 +1,5 @@
 ghost use Rattle.std.specs.Prelude.{◌≡◌, ◌≢◌, ◌≤◌, List as ListOf, [], length, IfOk, IfErr};
-ghost use Rattle.feature_expr.specs.Tokens.{AreTokens};
+ghost use Rattle.word_tokens.specs.Tokens.{AreTokens};
 ghost use Rattle.vschema.specs.Words.{line_number};
 ghost use Rattle.vschema.specs.Spelling.{SpellCatalogue};
 ghost use Rattle.vschema.specs.Files.{IsCatalogue};
@@ -17,12 +17,9 @@ use crate::fault::CatalogFault;
 use crate::parse_conditions::parse_model;
 use crate::parse_features::parse_features;
 use crate::refused::CatalogRefused;
-use feature_expr::{Features, List, Reading, Token, end_line, tokens};
+use feature_expr::{Features, List, NESTING_LIMIT, Reading, Token, end_line, tokens};
 use std::alloc::Global;
 use std::str;
-
-/// How deep brackets and `not` may nest in a catalogue.
-pub const NESTING_LIMIT: u32 = 64;
 
 /// The catalogue that a file's bytes spell, and its opening rows in the file's order.
 ///

@@ -1,7 +1,7 @@
 ghost use Rattle.std.specs.Prelude.{◌≡◌, ◌<◌, ◌≤◌, ◌+◌, true, length, IfOk, IfErr};
 ghost use Rattle.vschema.specs.Spelling.{IsExpression, IsModel, IsWhen, IsTail};
 ghost use Rattle.vschema.specs.Faults.{ExpressionFault, ModelFault, WhenFault, TailFault};
-ghost use Rattle.vschema.specs.declared.parse.TheConstants.{NESTING_LIMIT};
+ghost use Rattle.feature_expr.specs.Nesting.{nesting_limit};
 
 use crate::fault::CatalogFault;
 use crate::words::{Sign, stands, wanted};
@@ -14,7 +14,7 @@ fn parse_expression(
     at: usize,
 ) -> Result<(Expr, usize), CatalogFault>
     requires within { at ≤ length reading.now.tokens.now }
-    requires limit { reading.now.max_nesting ≡ NESTING_LIMIT }
+    requires limit { reading.now.max_nesting ≡ nesting_limit }
     ensures within { IfOk result (λ found. (at < found.1) × (found.1 ≤ length reading.now.tokens.now)) }
     ensures spelled { IfOk result (λ found. IsExpression reading.now.features.now reading.now.text.now reading.now.tokens.now nesting at found.0 found.1) }
     ensures refused { IfErr result (ExpressionFault reading.now.features.now reading.now.text.now reading.now.tokens.now nesting at) }
@@ -29,7 +29,7 @@ fn parse_expression(
 #[tactic(auto, using(crate::specs::Spelling::no_model, crate::specs::Spelling::some_model, crate::specs::Faults::in_model, crate::specs::Faults::model_unended))]
 pub fn parse_model(reading: &Reading<'_>, at: usize) -> Result<(Expr, usize), CatalogFault>
     requires within { at ≤ length reading.now.tokens.now }
-    requires limit { reading.now.max_nesting ≡ NESTING_LIMIT }
+    requires limit { reading.now.max_nesting ≡ nesting_limit }
     ensures within { IfOk result (λ found. found.1 ≤ length reading.now.tokens.now) }
     ensures spelled { IfOk result (λ found. IsModel reading.now.features.now reading.now.text.now reading.now.tokens.now at found.0 found.1) }
     ensures refused { IfErr result (ModelFault reading.now.features.now reading.now.text.now reading.now.tokens.now at) }
@@ -50,7 +50,7 @@ pub fn parse_when(
     at: usize,
 ) -> Result<(Expr, usize), CatalogFault>
     requires within { at ≤ length reading.now.tokens.now }
-    requires limit { reading.now.max_nesting ≡ NESTING_LIMIT }
+    requires limit { reading.now.max_nesting ≡ nesting_limit }
     ensures within { IfOk result (λ found. (at ≤ found.1) × (found.1 ≤ length reading.now.tokens.now)) }
     ensures spelled { IfOk result (λ found. IsWhen reading.now.features.now reading.now.text.now reading.now.tokens.now nesting at found.0 found.1) }
     ensures refused { IfErr result (WhenFault reading.now.features.now reading.now.text.now reading.now.tokens.now nesting at) }
@@ -67,7 +67,7 @@ pub fn parse_when(
 #[tactic(auto, using(crate::specs::Faults::in_tail_condition, crate::specs::Faults::tail_unended))]
 pub fn parse_tail(reading: &Reading<'_>, at: usize) -> Result<(Expr, usize), CatalogFault>
     requires within { at ≤ length reading.now.tokens.now }
-    requires limit { reading.now.max_nesting ≡ NESTING_LIMIT }
+    requires limit { reading.now.max_nesting ≡ nesting_limit }
     ensures within { IfOk result (λ found. (at < found.1) × (found.1 ≤ length reading.now.tokens.now)) }
     ensures spelled { IfOk result (λ found. IsTail reading.now.features.now reading.now.text.now reading.now.tokens.now at found.0 found.1) }
     ensures refused { IfErr result (TailFault reading.now.features.now reading.now.text.now reading.now.tokens.now at) }

@@ -1,7 +1,7 @@
 ghost use Rattle.std.specs.Prelude.{◌≡◌, ◌<◌, ◌≤◌, ◌+◌, true, false, ◌≢◌, length, vec_len, slice_get, IfOk, IfErr, Some};
-ghost use Rattle.feature_expr.specs.Value.{kind_of};
+ghost use Rattle.values.specs.Value.{kind_of};
 ghost use Rattle.vschema.specs.Words.{stands, line_number};
-ghost use Rattle.vschema.specs.declared.parse.TheConstants.{NESTING_LIMIT};
+ghost use Rattle.feature_expr.specs.Nesting.{nesting_limit};
 ghost use Rattle.vschema.specs.declared.words.Sign.TheVariants as sign;
 ghost use Rattle.vschema.specs.Spelling.{IsTableName, IsRow, no_cells, has_value, NewCell, IsCell, CellsBefore, AreCells};
 ghost use Rattle.vschema.specs.Faults.{RowNameFault, RowFault, CellNameFault, CellFault, CellsFault};
@@ -23,7 +23,7 @@ pub fn parse_row(
 ) -> Result<(OpeningRow, usize), CatalogFault>
     requires begins { stands reading.now.text.now reading.now.tokens.now at sign.Row ≡ true }
     requires within { at < length reading.now.tokens.now }
-    requires limit { reading.now.max_nesting ≡ NESTING_LIMIT }
+    requires limit { reading.now.max_nesting ≡ nesting_limit }
     ensures within { IfOk result (λ found. (at < found.1) × (found.1 ≤ length reading.now.tokens.now)) }
     ensures spelled { IfOk result (λ found. IsRow reading.now.features.now reading.now.text.now reading.now.tokens.now tables.now.tables.items at found.0 found.1) }
     ensures refused { IfErr result (RowFault reading.now.features.now reading.now.text.now reading.now.tokens.now tables.now.tables.items at) }

@@ -2,7 +2,7 @@ ghost use Rattle.std.specs.Prelude.{◌≡◌, ◌<◌, ◌≤◌, ◌+◌, true
 ghost use Rattle.vschema.specs.Spelling.{NewTable, IsTable, NewColumn, IsColumn, AreColumns};
 ghost use Rattle.vschema.specs.Words.{stands};
 ghost use Rattle.vschema.specs.Faults.{TableNameFault, TableFault, ColumnNameFault, ColumnFault, ColumnsFault};
-ghost use Rattle.vschema.specs.declared.parse.TheConstants.{NESTING_LIMIT};
+ghost use Rattle.feature_expr.specs.Nesting.{nesting_limit};
 ghost use Rattle.vschema.specs.declared.words.Sign.TheVariants as sign;
 
 use crate::catalog::{Column, Table};
@@ -23,7 +23,7 @@ pub fn parse_table(
 ) -> Result<(Table, usize), CatalogFault>
     requires begins { stands reading.now.text.now reading.now.tokens.now at sign.Table ≡ true }
     requires within { at < length reading.now.tokens.now }
-    requires limit { reading.now.max_nesting ≡ NESTING_LIMIT }
+    requires limit { reading.now.max_nesting ≡ nesting_limit }
     ensures within { IfOk result (λ found. (at < found.1) × (found.1 ≤ length reading.now.tokens.now)) }
     ensures spelled { IfOk result (λ found. IsTable reading.now.features.now reading.now.text.now reading.now.tokens.now tables.now.tables.items at found.0 found.1) }
     ensures refused { IfErr result (TableFault reading.now.features.now reading.now.text.now reading.now.tokens.now tables.now.tables.items at) }
@@ -61,7 +61,7 @@ fn new_table(reading: &Reading<'_>, at: usize, tables: &Tables) -> Result<Name, 
 #[tactic(auto, using(crate::specs::Spelling::no_column_yet, crate::specs::Spelling::another_column, crate::specs::Faults::columns_memory, crate::specs::Faults::at_column, crate::specs::Faults::columns_unclosed, crate::proofs::EntryLaws::columns_end))]
 fn parse_columns(reading: &Reading<'_>, from: usize) -> Result<(List<Column>, usize), CatalogFault>
     requires within { from ≤ length reading.now.tokens.now }
-    requires limit { reading.now.max_nesting ≡ NESTING_LIMIT }
+    requires limit { reading.now.max_nesting ≡ nesting_limit }
     ensures within { IfOk result (λ found. (from < found.1) × (found.1 ≤ length reading.now.tokens.now)) }
     ensures spelled { IfOk result (λ found. AreColumns reading.now.features.now reading.now.text.now reading.now.tokens.now from found.0 found.1) }
     ensures refused { IfErr result (ColumnsFault reading.now.features.now reading.now.text.now reading.now.tokens.now from) }
@@ -87,7 +87,7 @@ fn parse_column(
     columns: &[Column],
 ) -> Result<(Column, usize), CatalogFault>
     requires within { at ≤ length reading.now.tokens.now }
-    requires limit { reading.now.max_nesting ≡ NESTING_LIMIT }
+    requires limit { reading.now.max_nesting ≡ nesting_limit }
     ensures within { IfOk result (λ found. (at < found.1) × (found.1 ≤ length reading.now.tokens.now)) }
     ensures spelled { IfOk result (λ found. IsColumn reading.now.features.now reading.now.text.now reading.now.tokens.now columns.now at found.0 found.1) }
     ensures refused { IfErr result (ColumnFault reading.now.features.now reading.now.text.now reading.now.tokens.now columns.now at) }

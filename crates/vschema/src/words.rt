@@ -1,6 +1,6 @@
 ghost use Rattle.std.specs.Prelude.{◌≡◌, ◌<◌, ◌≤◌, ◌+◌, true, false, length, slice_get, Some, None, IfOk, IfErr, IfSome, IfNone, IsTrue};
 ghost use Rattle.std.specs.Option.{option_copied};
-ghost use Rattle.feature_expr.specs.Names.{is_name_of};
+ghost use Rattle.word_tokens.specs.Words.{is_name_of};
 ghost use Rattle.vschema.specs.Faults.{IsSyntaxAt};
 ghost use Rattle.vschema.specs.Words.{stands, name_of, spelled_name_at, folded_at, kind_at, value_of, value_at, truth_of};
 ghost use Rattle.vschema.specs.declared.fault.CatalogFault.TheVariants as fault;

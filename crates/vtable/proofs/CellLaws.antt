@@ -7,9 +7,9 @@ use Rattle.std.specs.Option.{option_cmp}
 use Rattle.std.specs.Cmp.Lexicographic.{options_total}
 use Rattle.std.proofs.lemmas.Cmp.{lists_total}
 use Rattle.std.proofs.lemmas.Map.Lookups.{exact_signed, exact_bytes}
-use Rattle.feature_expr.specs.contracts.value.ValueOrd.TheImpl.Laws.{total-law}
-use Rattle.feature_expr.specs.declared.value.Value.{Value}
-use Rattle.feature_expr.specs.declared.value.Value.TheVariants as value
+use Rattle.values.specs.contracts.value.ValueOrd.TheImpl.Laws.{total-law}
+use Rattle.values.specs.declared.value.Value.{Value}
+use Rattle.values.specs.declared.value.Value.TheVariants as value
 use Rattle.vtable.specs.TableForm.{cells_cmp, value_cmp, same_cells}
 use Rattle.vtable.proofs.GroupLaws.{cells_order}
 

@@ -9,7 +9,7 @@ use Rattle.std.specs.Cmp.Lexicographic.{slice_cmp}
 use Rattle.std.proofs.lemmas.List.{take_more, map-append}
 use Rattle.std.proofs.lemmas.List.Sorted.{IsPermutation-map, list_any-IsPermutation}
 use Rattle.feature_expr.specs.declared.expr.Expr as e
-use Rattle.feature_expr.specs.declared.value.Value.{Value}
+use Rattle.values.specs.declared.value.Value.{Value}
 use Rattle.feature_expr.specs.Satisfaction.{satisfies}
 use Rattle.plain_relation.specs.Relations.{columns_of}
 use Rattle.plain_relation.specs.Relations as plain

@@ -5,8 +5,8 @@ use Rattle.std.specs.List.{list_any, list_all}
 use Rattle.std.specs.Ordering.{is_eq, ordering_then}
 use Rattle.std.specs.declared.cmp.Ordering.TheVariants.{Equal}
 use Rattle.std.specs.Cmp.Lexicographic.{slice_cmp}
-use Rattle.feature_expr.specs.declared.column_name.ColName.{ColName}
-use Rattle.feature_expr.specs.declared.value.Value.{Value}
+use Rattle.values.specs.declared.column_name.ColName.{ColName}
+use Rattle.values.specs.declared.value.Value.{Value}
 use Rattle.plain_relation.specs.Relations.{SameRelation, HasRow, Cell, relation_with, columns_of, row_of, cell_of}
 use Rattle.plain_relation.specs.Relations as plain
 use Rattle.vtable.specs.declared.plain.PlainColumn.{PlainColumn}

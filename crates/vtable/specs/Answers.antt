@@ -2,11 +2,11 @@
 use Rattle.std.specs.Prelude.{Bool, true, false, not, ◌≡◌, ◌==◌, ◌&&◌, ℕ, List, [], ◌∷◌, map, filter, length, Option, Some, None, if◌then◌else◌}
 use Rattle.std.specs.List.{list_all, list_any}
 use Rattle.feature_expr.specs.Satisfaction.{satisfies}
-use Rattle.feature_expr.specs.Value.{kind_of}
-use Rattle.feature_expr.specs.declared.column_name.ColName.{ColName}
-use Rattle.feature_expr.specs.declared.value.Kind.{Kind}
-use Rattle.feature_expr.specs.declared.value.Kind.TheVariants as kind
-use Rattle.feature_expr.specs.declared.value.Value.{Value}
+use Rattle.values.specs.Value.{kind_of}
+use Rattle.values.specs.declared.column_name.ColName.{ColName}
+use Rattle.values.specs.declared.value.Kind.{Kind}
+use Rattle.values.specs.declared.value.Kind.TheVariants as kind
+use Rattle.values.specs.declared.value.Value.{Value}
 use Rattle.plain_relation.specs.Relations.{Relation, columns_of, relation_of, same_name}
 use Rattle.plain_relation.specs.Relations as plain
 use Rattle.vtable.specs.declared.table.VColumn.{VColumn}

@@ -6,7 +6,7 @@ use Rattle.std.specs.Ordering.{is_lt, is_eq}
 use Rattle.std.specs.Cmp.Lexicographic.{slice_cmp}
 use Rattle.feature_expr.specs.Satisfaction.{satisfies}
 use Rattle.feature_expr.specs.declared.expr.Expr as e
-use Rattle.feature_expr.specs.declared.value.Value.{Value}
+use Rattle.values.specs.declared.value.Value.{Value}
 use Rattle.plain_relation.specs.Relations.{Cell, Relation, SameRelation, columns_of, relation_with}
 use Rattle.plain_relation.specs.Relations as plain
 use Rattle.vtable.specs.Answers.{places_at, rows_at, answer_at}

@@ -4,7 +4,7 @@ use Rattle.std.specs.List.{filter_map}
 use Rattle.std.specs.Ordering.{is_lt}
 use Rattle.feature_expr.specs.declared.expr.Expr.{Expr}
 use Rattle.feature_expr.specs.declared.expr.Expr as e
-use Rattle.feature_expr.specs.declared.value.Value.{Value}
+use Rattle.values.specs.declared.value.Value.{Value}
 use Rattle.condition_sat.specs.Admitted.{IsAdmitted}
 use Rattle.condition_sat.specs.Possible.{can_hold, can_meet, settled, is_settled}
 use Rattle.feature_expr.specs.Expressions.{mentions, weight_of}

@@ -10,8 +10,8 @@ use Rattle.std.proofs.Math.Bool.{beq}
 use Rattle.feature_expr.specs.Expressions.{mentions, weight_of}
 use Rattle.feature_expr.specs.Satisfaction.{satisfies}
 use Rattle.feature_expr.specs.declared.expr.Expr.{Expr}
-use Rattle.feature_expr.specs.declared.value.Value.{Value}
-use Rattle.feature_expr.specs.declared.value.Value.TheVariants as value
+use Rattle.values.specs.declared.value.Value.{Value}
+use Rattle.values.specs.declared.value.Value.TheVariants as value
 use Rattle.condition_sat.specs.Admitted.{IsAdmitted}
 use Rattle.condition_sat.specs.Possible.{can_hold, can_meet, is_settled, settled}
 use Rattle.plain_relation.specs.Relations.{SameRelation, same_name}

@@ -5,7 +5,7 @@ use Rattle.feature_expr.proofs.OccurringLaws.{names_spelled}
 use Rattle.feature_expr.specs.ExprGrammar.{Disjunction}
 use Rattle.feature_expr.proofs.OneLaws.{one_text}
 use Rattle.feature_expr.proofs.PrintedLaws.{printed_text}
-use Rattle.feature_expr.proofs.TokenLaws.{has_tokens}
+use Rattle.word_tokens.proofs.TokenLaws.{has_tokens}
 use Rattle.feature_expr.specs.Printing.{text_of}
 use Rattle.std.proofs.Common.{refl}
 use Rattle.feature_expr.proofs.WholeLaws.{refused_for_memory}

@@ -1,0 +1,3 @@
+pub mod Grammar
+pub mod Tokens
+pub mod Words
