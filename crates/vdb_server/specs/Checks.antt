@@ -54,7 +54,7 @@ pub record IsReady (before after : Files) (catalogue stream : List ℕ) (out out
 -- the exits of a catalogue that was read and doesn't pass its check
 abbrev pub IsUnpassedExit : Exit → Catalog → List OpeningRow → Type 0
 IsUnpassedExit (exit.Catalogue (fault.Check unpassed.Memory catalog)) read rows = ⊥
-IsUnpassedExit (exit.Catalogue (fault.Check why catalog)) read rows = (catalog ≡ read) × check.Refuses catalog rows why
+IsUnpassedExit (exit.Catalogue (fault.Check why catalog)) read rows = (catalog ≡ read) × check.RefusesCatalogue catalog rows why
 IsUnpassedExit exit.Memory read rows = Unit {0}
 IsUnpassedExit _ read rows = ⊥
 

@@ -89,7 +89,7 @@ is_check _ = false
 pub record IsUnpassed (bytes : List ℕ) (catalog : Catalog) (why : CheckRefused) : Type 0 where
   pub rows : List OpeningRow
   pub spelled : IsCatalogue bytes catalog rows
-  pub refused : check.Refuses catalog rows why
+  pub refused : check.RefusesCatalogue catalog rows why
 
 -- why these bytes aren't taken: the reader's own refusal, or that of the check; want of memory is no such reason
 abbrev pub RefusedFor : CatalogueFault → List ℕ → Type 0
