@@ -1,0 +1,5 @@
+mod BindLaws
+mod ChainLaws
+mod ColumnLaws
+mod PlanLaws
+mod SoundLaws

@@ -1,0 +1,13 @@
+pub mod Bounds
+pub mod Cases
+pub mod Chains
+pub mod Meaning
+pub mod Names
+pub mod ParameterKinds
+pub mod Parameters
+pub mod PlainTypes
+pub mod Plans
+pub mod PossibleColumns
+pub mod Sources
+pub mod Typing
+pub mod WriteTyping
