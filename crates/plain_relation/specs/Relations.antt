@@ -1,7 +1,8 @@
 -- Plain relations: what a table, or an answer, is in one variant. A row is a finite map from column names to values,
 -- kept as the list of its cells. The order of a relation's columns and that of its rows have no meaning, and a row that
 -- stands twice counts once.
-use Rattle.std.specs.Prelude.{Bool, true, false, ◌≡◌, ◌&&◌, ℕ, List, [], ◌∷◌, map, Option, Some, None, if◌then◌else◌, Contains, ◌⊎◌, ◌↔◌}
+use Rattle.std.specs.Prelude.{Bool, true, false, not, ◌≡◌, ◌&&◌, ℕ, List, [], ◌∷◌, map, Option, Some, None, if◌then◌else◌, Contains, ◌⊎◌, ◌↔◌}
+use Rattle.std.specs.List.{list_any}
 use Rattle.std.specs.Str.{bytes_eq}
 use Rattle.values.specs.declared.column_name.ColName.{ColName}
 use Rattle.values.specs.declared.value.Kind.{Kind}
@@ -52,6 +53,10 @@ same_prefix _ _ = false
 
 abbrev pub same_name : ColName → ColName → Bool
 same_name one other = same_prefix one.prefix other.prefix && bytes_eq one.base other.base
+
+-- whether one of the columns has the name
+abbrev pub has_name : ColName → List Column → Bool
+has_name name columns = list_any (λ (column : Column). same_name column.name name) columns
 
 -- the value that a row has under a name
 abbrev pub cell_of : List Cell → ColName → Option Value

@@ -5,7 +5,7 @@ use Rattle.std.specs.List.{flat_map}
 use Rattle.std.specs.Option.{option_or}
 use Rattle.values.specs.declared.column_name.ColName.{ColName}
 use Rattle.values.specs.declared.value.Kind.{Kind}
-use Rattle.plain_relation.specs.Relations.{Column}
+use Rattle.plain_relation.specs.Relations.{Column, has_name}
 use Rattle.vra_syntax.specs.declared.cond.Cond.{Cond, fold-Cond}
 use Rattle.vra_syntax.specs.declared.cond.Cond.TheOpen.{Cond-F}
 use Rattle.vra_syntax.specs.declared.cond.Operand.{Operand}
@@ -17,7 +17,7 @@ use Rattle.vra_syntax.specs.declared.query.Query.{Query, fold-Query, map-Query}
 use Rattle.vra_syntax.specs.declared.query.Query.TheOpen.{Query-F}
 use Rattle.vschema.specs.declared.catalog.Table.{Table}
 use Rattle.query_meaning.specs.Cases.{Case, case, no_table}
-use Rattle.relational_algebra.specs.Columns.{has_name, merged}
+use Rattle.relational_algebra.specs.Columns.{merged}
 use Rattle.query_meaning.specs.Parameters.{Occurrence, occurrences, without_kind}
 use Rattle.query_meaning.specs.PossibleColumns.{possible_step}
 use Rattle.query_meaning.specs.Sources.{table_named}

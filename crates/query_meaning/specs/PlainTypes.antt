@@ -6,7 +6,7 @@ use Rattle.values.specs.Value.{kind_of}
 use Rattle.values.specs.declared.column_name.ColName.{ColName}
 use Rattle.feature_expr.specs.declared.expr.Expr.{Expr}
 use Rattle.values.specs.declared.value.Kind.{Kind}
-use Rattle.plain_relation.specs.Relations.{Column}
+use Rattle.plain_relation.specs.Relations.{Column, has_name}
 use Rattle.vra_syntax.specs.declared.cond.Cond.{Cond, fold-Cond}
 use Rattle.vra_syntax.specs.declared.cond.Cond.TheOpen.{Cond-F}
 use Rattle.vra_syntax.specs.declared.cond.Operand.{Operand}
@@ -18,12 +18,12 @@ use Rattle.vra_syntax.specs.declared.query.Query.{Query, fold-Query, map-Query}
 use Rattle.vra_syntax.specs.declared.query.Query.TheOpen.{Query-F}
 use Rattle.vschema.specs.declared.catalog.Table.{Table}
 use Rattle.query_meaning.specs.Cases.{Case, case, operand_name}
-use Rattle.relational_algebra.specs.Columns.{same_columns, has_name, named, kinds_of, repeated, in_order_of, both_sides, aliased, first_name}
+use Rattle.relational_algebra.specs.Columns.{same_columns, named, kinds_of, repeated, in_order_of, both_sides, aliased, first_name}
 use Rattle.relational_algebra.specs.Items.{kept, kept_in_order}
 use Rattle.query_meaning.specs.Parameters.{kind_at}
 use Rattle.query_meaning.specs.PossibleColumns.{possible_step}
 use Rattle.query_meaning.specs.Sources.{source_named}
-use Rattle.relational_algebra.specs.Values.{same_kind}
+use Rattle.plain_relation.specs.Values.{same_kind}
 use Rattle.query_meaning.specs.declared.ill.IllCase.TheVariants as ill
 
 -- A query that is ill has the cases that hold in it. They are those of parts whose own parts have a plain type: where a

@@ -22,7 +22,7 @@ use Rattle.query_meaning.specs.Names.{unknown_name, unknown_in_cond}
 use Rattle.query_meaning.specs.Parameters.{Occurrence, occurrence, occurrences, partner_named, kind_at, without_kind}
 use Rattle.query_meaning.specs.PlainTypes.{absent_name, asked}
 use Rattle.query_meaning.specs.Sources.{source_named, table_named, table_source}
-use Rattle.relational_algebra.specs.Values.{same_kind}
+use Rattle.plain_relation.specs.Values.{same_kind}
 use Rattle.query_meaning.specs.declared.ill.IllCase.TheVariants as ill
 use Rattle.query_meaning.specs.declared.ill.TypeRefused.{TypeRefused}
 use Rattle.query_meaning.specs.declared.ill.TypeRefused.TheVariants as refused

@@ -4,18 +4,14 @@ use Rattle.std.specs.Prelude.{ℕ, Bool, ◌&&◌, List, [], ◌∷◌, ◌++◌
 use Rattle.std.specs.List.{list_any, list_all}
 use Rattle.values.specs.declared.column_name.ColName.{ColName}
 use Rattle.values.specs.declared.value.Kind.{Kind}
-use Rattle.plain_relation.specs.Relations.{Column, same_name}
-use Rattle.relational_algebra.specs.Values.{same_kind}
+use Rattle.plain_relation.specs.Relations.{Column, has_name, same_name}
+use Rattle.plain_relation.specs.Values.{same_kind}
 
 abbrev pub same_column : Column → Column → Bool
 same_column one other = same_name one.name other.name && same_kind one.kind other.kind
 
 abbrev pub among : Column → List Column → Bool
 among column columns = list_any (same_column column) columns
-
--- whether one of the columns has the name
-abbrev pub has_name : ColName → List Column → Bool
-has_name name columns = list_any (λ (column : Column). same_name column.name name) columns
 
 -- the columns of a name
 abbrev pub named : ColName → List Column → List Column

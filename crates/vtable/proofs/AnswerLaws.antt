@@ -14,7 +14,8 @@ use Rattle.plain_relation.specs.Relations as plain
 use Rattle.vtable.specs.declared.table.VColumn.{VColumn}
 use Rattle.vtable.specs.declared.table.VRow.{VRow}
 use Rattle.vtable.specs.declared.table.VTable.{VTable}
-use Rattle.vtable.specs.Answers.{column_at, fits, same_kind, names_are_distinct, is_whole, IsAnswerAt}
+use Rattle.plain_relation.specs.Values.{same_kind}
+use Rattle.vtable.specs.Answers.{column_at, fits, names_are_distinct, is_whole, IsAnswerAt}
 use Rattle.condition_sat.specs.Possible.{can_hold, can_meet, is_settled}
 use Rattle.vtable.specs.TableForm.{same_cells, has_row_with, has_cell, cells_stand, is_row_formed, columns_staying, cut_cells, cut_row}
 use Rattle.vtable.proofs.CellLaws.{same_cells_are, same_cells_self}

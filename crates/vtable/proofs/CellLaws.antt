@@ -10,7 +10,8 @@ use Rattle.std.proofs.lemmas.Map.Lookups.{exact_signed, exact_bytes}
 use Rattle.values.specs.contracts.value.ValueOrd.TheImpl.Laws.{total-law}
 use Rattle.values.specs.declared.value.Value.{Value}
 use Rattle.values.specs.declared.value.Value.TheVariants as value
-use Rattle.vtable.specs.TableForm.{cells_cmp, value_cmp, same_cells}
+use Rattle.plain_relation.specs.Values.{value_cmp}
+use Rattle.vtable.specs.TableForm.{cells_cmp, same_cells}
 use Rattle.vtable.proofs.GroupLaws.{cells_order}
 
 not_equal : (o : Ordering) → o ≡ Less → o ≡ Equal → ⊥

@@ -22,7 +22,8 @@ use Rattle.vtable.specs.declared.table.VColumn.{VColumn}
 use Rattle.vtable.specs.declared.table.VRow.{VRow}
 use Rattle.vtable.specs.declared.table.VTable.{VTable}
 use Rattle.vtable.specs.Answers.{column_at, fits, IsAnswerAt}
-use Rattle.vtable.specs.TableForm.{cells_cmp, value_cmp, same_cells}
+use Rattle.plain_relation.specs.Values.{value_cmp}
+use Rattle.vtable.specs.TableForm.{cells_cmp, same_cells}
 use Rattle.vtable.specs.Configured.{plain_column, values_of, same_values, values_ascend, IsPresent, fate_at, row_there, some_values, group_values}
 use Rattle.vtable.specs.Passes.{cells_by, table_row, is_in_order, groups_after, group_of, with_cond}
 use Rattle.vtable.proofs.CellLaws.{same_cells_are}

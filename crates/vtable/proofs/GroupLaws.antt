@@ -11,7 +11,8 @@ use Rattle.values.specs.declared.value.Value.TheVariants as value
 use Rattle.vtable.specs.declared.group.CutRow.{CutRow}
 use Rattle.vtable.specs.declared.group.Group.{Group}
 use Rattle.vtable.specs.declared.table.VRow.{VRow}
-use Rattle.vtable.specs.TableForm.{same_cells, cells_cmp, value_cmp}
+use Rattle.plain_relation.specs.Values.{value_cmp}
+use Rattle.vtable.specs.TableForm.{same_cells, cells_cmp}
 use Rattle.vtable.specs.Passes.{table_row, is_in_order, groups_after, group_of}
 use Rattle.condition_sat.proofs.PossibleLaws.{both}
 

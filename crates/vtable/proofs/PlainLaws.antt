@@ -12,7 +12,7 @@ use Rattle.plain_relation.specs.Relations as plain
 use Rattle.vtable.specs.declared.plain.PlainColumn.{PlainColumn}
 use Rattle.vtable.specs.declared.table.VTable.{VTable}
 use Rattle.vtable.specs.Answers.{fits, rows_at, places_at, answer_at}
-use Rattle.vtable.specs.TableForm.{value_cmp}
+use Rattle.plain_relation.specs.Values.{value_cmp}
 use Rattle.vtable.specs.Configured.{plain_column, values_of, same_values, cells_of, relation_in}
 use Rattle.vtable.proofs.CellLaws.{value_is, then_first, then_second, is_equal, same_cells_self}
 use Rattle.vtable.proofs.NormalLaws.{same_with}

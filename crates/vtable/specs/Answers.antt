@@ -3,12 +3,10 @@ use Rattle.std.specs.Prelude.{Bool, true, false, not, ◌≡◌, ◌==◌, ◌&&
 use Rattle.std.specs.List.{list_all, list_any}
 use Rattle.feature_expr.specs.Satisfaction.{satisfies}
 use Rattle.values.specs.Value.{kind_of}
-use Rattle.values.specs.declared.column_name.ColName.{ColName}
-use Rattle.values.specs.declared.value.Kind.{Kind}
-use Rattle.values.specs.declared.value.Kind.TheVariants as kind
 use Rattle.values.specs.declared.value.Value.{Value}
-use Rattle.plain_relation.specs.Relations.{Relation, columns_of, relation_of, same_name}
+use Rattle.plain_relation.specs.Relations.{Relation, columns_of, has_name, relation_of}
 use Rattle.plain_relation.specs.Relations as plain
+use Rattle.plain_relation.specs.Values.{same_kind}
 use Rattle.vtable.specs.declared.table.VColumn.{VColumn}
 use Rattle.vtable.specs.declared.table.VRow.{VRow}
 use Rattle.vtable.specs.declared.table.VTable.{VTable}
@@ -30,20 +28,10 @@ rows_at c table = map (λ (row : VRow). row.cells) (filter (λ (row : VRow). sat
 abbrev pub answer_at : List ℕ → VTable → Relation
 answer_at c table = relation_of (places_at c table) (rows_at c table)
 
--- whether one of the columns has the name
-abbrev pub has_name : ColName → List plain.Column → Bool
-has_name name columns = list_any (λ (column : plain.Column). same_name column.name name) columns
-
 -- whether no two columns have one name
 abbrev pub names_are_distinct : List plain.Column → Bool
 names_are_distinct [] = true
 names_are_distinct (column ∷ columns) = not (has_name column.name columns) && names_are_distinct columns
-
-abbrev pub same_kind : Kind → Kind → Bool
-same_kind kind.Int kind.Int = true
-same_kind kind.Text kind.Text = true
-same_kind kind.Bool kind.Bool = true
-same_kind _ _ = false
 
 -- whether a list of cells has one place per column, and in each column that is there a cell of its kind
 abbrev pub fits : List (Option plain.Column) → List (Option Value) → Bool

@@ -10,7 +10,7 @@ use Rattle.values.specs.declared.value.Value.{Value}
 use Rattle.plain_relation.specs.Relations.{Cell, Relation, SameRelation, columns_of, relation_with}
 use Rattle.plain_relation.specs.Relations as plain
 use Rattle.vtable.specs.Answers.{places_at, rows_at, answer_at}
-use Rattle.vtable.specs.TableForm.{value_cmp}
+use Rattle.plain_relation.specs.Values.{value_cmp}
 use Rattle.vtable.specs.Passes.{cells_by}
 use Rattle.vtable.specs.declared.decision.Fate.{Fate}
 use Rattle.vtable.specs.declared.decision.Fate.TheVariants as fate

@@ -2,20 +2,19 @@
 use Rattle.std.specs.Prelude.{Bool, true, false, not, IsTrue, ◌≡◌, ◌≤◌, ◌+◌, ◌&&◌, ◌||◌, ℕ, List, [], ◌∷◌, map, length, Option, Some, None, is_some, if◌then◌else◌}
 use Rattle.std.specs.List.{list_all, list_any, filter_map, sum_by}
 use Rattle.std.specs.Option.{option_cmp}
-use Rattle.std.specs.Ordering.{is_lt, is_eq, nat_cmp, int_cmp}
+use Rattle.std.specs.Ordering.{is_lt, is_eq}
 use Rattle.std.specs.declared.cmp.Ordering.{Ordering}
-use Rattle.std.specs.declared.cmp.Ordering.TheVariants.{Less, Greater}
 use Rattle.std.specs.Cmp.Lexicographic.{slice_cmp}
 use Rattle.std.proofs.Math.Bool.{beq}
 use Rattle.feature_expr.specs.Expressions.{mentions, weight_of}
 use Rattle.feature_expr.specs.Satisfaction.{satisfies}
 use Rattle.feature_expr.specs.declared.expr.Expr.{Expr}
 use Rattle.values.specs.declared.value.Value.{Value}
-use Rattle.values.specs.declared.value.Value.TheVariants as value
 use Rattle.condition_sat.specs.Admitted.{IsAdmitted}
 use Rattle.condition_sat.specs.Possible.{can_hold, can_meet, is_settled, settled}
 use Rattle.plain_relation.specs.Relations.{SameRelation, same_name}
-use Rattle.vtable.specs.Answers.{IsAnswerAt, answer_at, same_kind}
+use Rattle.plain_relation.specs.Values.{same_kind, value_cmp}
+use Rattle.vtable.specs.Answers.{IsAnswerAt, answer_at}
 use Rattle.vtable.specs.declared.table.VColumn.{VColumn}
 use Rattle.vtable.specs.declared.table.VRow.{VRow}
 use Rattle.vtable.specs.declared.table.VTable.{VTable}
@@ -27,16 +26,6 @@ same_column one other = same_name one.name other.name && same_kind one.kind othe
 abbrev pub columns_are_distinct : List VColumn → Bool
 columns_are_distinct [] = true
 columns_are_distinct (column ∷ columns) = not (list_any (same_column column) columns) && columns_are_distinct columns
-
--- Integers are before texts, and texts before truth values. In a column all values have one kind.
-abbrev pub value_cmp : Value → Value → Ordering
-value_cmp (value.Int one) (value.Int other) = int_cmp one other
-value_cmp (value.Int one) _ = Less
-value_cmp (value.Text one) (value.Int other) = Greater
-value_cmp (value.Text one) (value.Text other) = slice_cmp nat_cmp one other
-value_cmp (value.Text one) (value.Bool other) = Less
-value_cmp (value.Bool one) (value.Bool other) = nat_cmp (if one then 1 else 0) (if other then 1 else 0)
-value_cmp (value.Bool one) _ = Greater
 
 -- cells are compared in the order of the columns, an absent one before every value
 abbrev pub cells_cmp : List (Option Value) → List (Option Value) → Ordering
