@@ -1,7 +1,7 @@
 -- Plain relations: what a table, or an answer, is in one variant. A row is a finite map from column names to values,
 -- kept as the list of its cells. The order of a relation's columns and that of its rows have no meaning, and a row that
 -- stands twice counts once.
-use Rattle.std.specs.Prelude.{Bool, true, false, not, ◌≡◌, ◌&&◌, ℕ, List, [], ◌∷◌, map, Option, Some, None, if◌then◌else◌, Contains, ◌⊎◌, ◌↔◌}
+use Rattle.std.specs.Prelude.{Bool, true, false, ◌≡◌, ◌&&◌, ℕ, List, [], ◌∷◌, map, Option, Some, None, if◌then◌else◌, Contains, ◌⊎◌, ◌↔◌}
 use Rattle.std.specs.List.{list_any}
 use Rattle.std.specs.Str.{bytes_eq}
 use Rattle.values.specs.declared.column_name.ColName.{ColName}

@@ -17,7 +17,8 @@ use Rattle.values.specs.Value.{kind_of}
 use Rattle.values.specs.declared.value.Kind.{Kind}
 use Rattle.values.specs.declared.value.Kind.TheVariants as kind
 use Rattle.values.specs.declared.value.Value.{Value}
-use Rattle.plain_relation.specs.Relations.{relation_of, columns_of, SameRelation}
+use Rattle.plain_relation.specs.Relations.{relation_of, columns_of, SameRelation, has_name}
+use Rattle.plain_relation.specs.Values.{same_kind}
 use Rattle.plain_relation.specs.Relations as plain
 use Rattle.session_poll.specs.declared.opening.Opening.{Opening}
 use Rattle.session_poll.specs.Answers.{IsAnswer, heading, table_heading, is_somewhere, row_count, row_weight, column_weight, columns_weigh}
@@ -28,7 +29,7 @@ use Rattle.session_poll.proofs.KnownLaws.{answer_known}
 use Rattle.vschema.specs.declared.catalog.Column.{Column}
 use Rattle.vschema.specs.declared.catalog.OpeningRow.{OpeningRow}
 use Rattle.vschema.specs.declared.catalog.Table.{Table}
-use Rattle.vschema.specs.Formed.{distinct, column_names, has_distinct_columns, table_features_below, CellsFit, FitsTable, RowFits}
+use Rattle.vschema.specs.Formed.{distinct, column_names, has_distinct_columns, TableKnown, CellsFit, FitsTable, RowFits}
 use Rattle.vschema.specs.Gaps.{misses_value, columns_without, has_all_values, has_all_values_in, have_all_values}
 use Rattle.vschema.specs.Variants.{has_column, opening_at, opening_database, table_in}
 use Rattle.vschema.specs.Variants as variants
@@ -93,6 +94,9 @@ at_place p xs k x all is =
     let there = AllPass-from_list_all p xs all k x (slice_get_within xs k x is) in
     subst (λ y. p y ≡ true) (get_or_from_slice_get xs k x x is) there
 
+known_at : (names : List (List ℕ)) (tables : List Table) (k : ℕ) (table : Table) → All (TableKnown names) tables → slice_get tables k ≡ Some table → TableKnown names table
+known_at names tables k table all is = subst (TableKnown names) (get_or_from_slice_get tables k table table is) (all k table (slice_get_within tables k table is))
+
 -- No two columns that are there have one name, where no two of the table's have.
 not_true : (b : Bool) → not b ≡ true → b ≡ false
 not_true false is = refl
@@ -103,11 +107,11 @@ either_false false b is = (refl, is)
 either_false true b is = absurd (true≢false is)
 
 -- where a name isn't among the columns', it isn't among those that are there
-lacks_one : (c : List ℕ) (table : Table) (name : List ℕ) (k : Column) (ks : List Column) (there : Bool) → has_column c table k ≡ there → bytes_eq k.name name ≡ false → answers.has_name (variants.bare_name name) (columns_of (map (variants.column_at c table) ks)) ≡ false → answers.has_name (variants.bare_name name) (columns_of (map (variants.column_at c table) (k ∷ ks))) ≡ false
+lacks_one : (c : List ℕ) (table : Table) (name : List ℕ) (k : Column) (ks : List Column) (there : Bool) → has_column c table k ≡ there → bytes_eq k.name name ≡ false → has_name (variants.bare_name name) (columns_of (map (variants.column_at c table) ks)) ≡ false → has_name (variants.bare_name name) (columns_of (map (variants.column_at c table) (k ∷ ks))) ≡ false
 lacks_one c table name k ks false is other rest = rw is rest
 lacks_one c table name k ks true is other rest = rw (is, other) rest
 
-lacks : (c : List ℕ) (table : Table) (name : List ℕ) (ks : List Column) → among name (column_names ks) ≡ false → answers.has_name (variants.bare_name name) (columns_of (map (variants.column_at c table) ks)) ≡ false
+lacks : (c : List ℕ) (table : Table) (name : List ℕ) (ks : List Column) → among name (column_names ks) ≡ false → has_name (variants.bare_name name) (columns_of (map (variants.column_at c table) ks)) ≡ false
 lacks c table name [] other = refl
 lacks c table name (k ∷ ks) other =
     let parts = either_false (bytes_eq k.name name) (among name (column_names ks)) other in
@@ -151,7 +155,7 @@ wholes tables number table all (row ∷ rows) there fit =
     (wholes tables number table all rows there (all_tail (RowFits tables) row rows fit))
 
 -- a row that is there has a cell of the column's kind in each column that is there
-same_kind_itself : (k : Kind) → answers.same_kind k k ≡ true
+same_kind_itself : (k : Kind) → same_kind k k ≡ true
 same_kind_itself kind.Int = refl
 same_kind_itself kind.Text = refl
 same_kind_itself kind.Bool = refl
@@ -267,7 +271,6 @@ headings model table (column ∷ columns) = one_heading model table column colum
 pub normal_is_answer : (opening : Opening) (number : ℕ) (table : Table) (before after : VTable) → IsServable opening → slice_get opening.catalog.tables number ≡ Some table → before ≡ scanned number table opening.rows → IsNormalOf opening.model before after → IsAnswer opening number table after
 normal_is_answer opening number table before after servable there is normal =
     let scan = scanned number table opening.rows in
-    let count_of = length opening.catalog.features in
     let made : IsNormalOf opening.catalog.model scan after = subst₂ (λ m b. IsNormalOf m b after) servable.model is normal in
     let fewer = made.fewer in
     let lighter = made.lighter in
@@ -283,8 +286,8 @@ normal_is_answer opening number table before after servable there is normal =
       rows = omega (arith, fewer, count);
       row_conditions = omega (arith, lighter, weight, count);
       column_conditions = omega (arith, staying, within);
-      known = answer_known count_of number opening.catalog.model table opening.rows after
-          (at_place (table_features_below count_of) opening.catalog.tables number table servable.formed.tables_known there) servable.formed.rows_known made.columns made.known;
+      known = answer_known opening.catalog.features number opening.catalog.model table opening.rows after
+          (known_at opening.catalog.features opening.catalog.tables number table servable.formed.tables_known there) servable.formed.rows_known made.columns made.known;
     }
 
 -- a row more

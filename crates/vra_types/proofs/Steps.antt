@@ -10,7 +10,8 @@ use Rattle.values.specs.declared.value.Value.{Value}
 use Rattle.vschema.specs.declared.catalog.Column.{Column}
 use Rattle.vschema.specs.declared.catalog.OpeningRow.{OpeningRow}
 use Rattle.vschema.specs.declared.catalog.Table.{Table}
-use Rattle.vschema.specs.Gaps.{columns_without, is_value}
+use Rattle.vschema.specs.Gaps.{columns_without}
+use Rattle.vschema.specs.Spelling.{is_filled}
 use Rattle.vra_types.specs.declared.refused.CheckRefused.{CheckRefused}
 use Rattle.vra_types.specs.Check.{Gap, TableGap, RowGap, row_gaps, IsNowhere, AreNowhere, RefusesGaps}
 use Rattle.vra_types.proofs.Left.{IsLeft, left_behind, left_refused}
@@ -56,24 +57,24 @@ unfolding CellsFrom
 cells_from cells k None none = let past : length cells ≤ k = none_past cells k none in (drop_of_length-le cells past, drop_of_length-le cells (omega arith))
 cells_from cells k (Some cell) some = rw (drop_more cells k cell (slice_get_within cells k cell some)) (ap (λ y. y ∷ drop (k + 1) cells) (get_or_from_slice_get cells k cell cell some))
 
-cells_next : (column : Column) (columns : List Column) (got : Option (Option Value)) (now next : List (Option Value)) → CellsFrom got now next → columns_without (column ∷ columns) now ≡ (if is_value got then columns_without columns next else column ∷ columns_without columns next)
+cells_next : (column : Column) (columns : List Column) (got : Option (Option Value)) (now next : List (Option Value)) → CellsFrom got now next → columns_without (column ∷ columns) now ≡ (if is_filled got then columns_without columns next else column ∷ columns_without columns next)
 unfolding CellsFrom
 cells_next column columns None now next from = rw (from.0, from.1) refl
 cells_next column columns (Some None) now next from = rw from refl
 cells_next column columns (Some (Some value)) now next from = rw from refl
 
-column_next : (columns : List Column) (cells : List (Option Value)) (k : ℕ) (column : Column) → k < length columns → column ≡ get_or columns k column → columns_without (drop k columns) (drop k cells) ≡ (if is_value (slice_get cells k) then columns_without (drop (k + 1) columns) (drop (k + 1) cells) else column ∷ columns_without (drop (k + 1) columns) (drop (k + 1) cells))
+column_next : (columns : List Column) (cells : List (Option Value)) (k : ℕ) (column : Column) → k < length columns → column ≡ get_or columns k column → columns_without (drop k columns) (drop k cells) ≡ (if is_filled (slice_get cells k) then columns_without (drop (k + 1) columns) (drop (k + 1) cells) else column ∷ columns_without (drop (k + 1) columns) (drop (k + 1) cells))
 column_next columns cells k column low is = rw (item_next columns k column low is) (cells_next column (drop (k + 1) columns) (slice_get cells k) (drop k cells) (drop (k + 1) cells) (cells_from cells k (slice_get cells k) refl))
 
 module _ (model : Expr) (all : List Gap) (table : Table) (row : OpeningRow) (columns : List Column) (cells : List (Option Value)) (k : ℕ) (column : Column) (low : k < length columns) (is : column ≡ get_or columns k column) where
-  pub valued_left : is_value (slice_get cells k) ≡ true → IsLeft model all (map (RowGap table row) (columns_without (drop k columns) (drop k cells))) → IsLeft model all (map (RowGap table row) (columns_without (drop (k + 1) columns) (drop (k + 1) cells)))
+  pub valued_left : is_filled (slice_get cells k) ≡ true → IsLeft model all (map (RowGap table row) (columns_without (drop k columns) (drop k cells))) → IsLeft model all (map (RowGap table row) (columns_without (drop (k + 1) columns) (drop (k + 1) cells)))
   valued_left is_there left = left_along model all _ _ (ap (λ xs. map (RowGap table row) xs) (column_next columns cells k column low is ∙ ap (λ b. if b then columns_without (drop (k + 1) columns) (drop (k + 1) cells) else column ∷ columns_without (drop (k + 1) columns) (drop (k + 1) cells)) is_there)) left
 
-  blank_next : is_value (slice_get cells k) ≡ false → map (RowGap table row) (columns_without (drop k columns) (drop k cells)) ≡ (RowGap table row column ∷ []) ++ map (RowGap table row) (columns_without (drop (k + 1) columns) (drop (k + 1) cells))
+  blank_next : is_filled (slice_get cells k) ≡ false → map (RowGap table row) (columns_without (drop k columns) (drop k cells)) ≡ (RowGap table row column ∷ []) ++ map (RowGap table row) (columns_without (drop (k + 1) columns) (drop (k + 1) cells))
   blank_next is_blank = ap (λ xs. map (RowGap table row) xs) (column_next columns cells k column low is ∙ ap (λ b. if b then columns_without (drop (k + 1) columns) (drop (k + 1) cells) else column ∷ columns_without (drop (k + 1) columns) (drop (k + 1) cells)) is_blank)
 
-  pub blank_left : is_value (slice_get cells k) ≡ false → IsLeft model all (map (RowGap table row) (columns_without (drop k columns) (drop k cells))) → IsNowhere model (RowGap table row column) → IsLeft model all (map (RowGap table row) (columns_without (drop (k + 1) columns) (drop (k + 1) cells)))
+  pub blank_left : is_filled (slice_get cells k) ≡ false → IsLeft model all (map (RowGap table row) (columns_without (drop k columns) (drop k cells))) → IsNowhere model (RowGap table row column) → IsLeft model all (map (RowGap table row) (columns_without (drop (k + 1) columns) (drop (k + 1) cells)))
   blank_left is_blank left none = left_behind model all (RowGap table row column ∷ []) _ (left_along model all _ _ (blank_next is_blank) left) (none, tt)
 
-  pub blank_refused : (why : CheckRefused) → is_value (slice_get cells k) ≡ false → IsLeft model all (map (RowGap table row) (columns_without (drop k columns) (drop k cells))) → RefusesGaps model (RowGap table row column ∷ []) why → RefusesGaps model all why
+  pub blank_refused : (why : CheckRefused) → is_filled (slice_get cells k) ≡ false → IsLeft model all (map (RowGap table row) (columns_without (drop k columns) (drop k cells))) → RefusesGaps model (RowGap table row column ∷ []) why → RefusesGaps model all why
   blank_refused why is_blank left h = left_refused model all (RowGap table row column ∷ []) _ why (left_along model all _ _ (blank_next is_blank) left) h

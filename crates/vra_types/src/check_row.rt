@@ -1,7 +1,8 @@
 ghost use Rattle.std.specs.Prelude.{◌≡◌, true, [], ◌∷◌, map, slice_get, IfOk, IfErr, IfSome, IfNone, OnOk};
 ghost use Rattle.std.specs.List.{flat_map};
 ghost use Rattle.std.specs.Option.{option_copied};
-ghost use Rattle.vschema.specs.Gaps.{columns_without, is_value};
+ghost use Rattle.vschema.specs.Gaps.{columns_without};
+ghost use Rattle.vschema.specs.Spelling.{is_filled};
 ghost use Rattle.vra_types.specs.Check.{RowGap, row_gaps, row_gaps_in, IsGapAt, IsNowhere, AreNowhere, RefusesGaps};
 
 use crate::alike::{fingerprint, is_alike_to_judged};
@@ -77,7 +78,7 @@ fn check_cells(
 }
 
 fn has_value(row: &OpeningRow, place: usize) -> bool
-    ensures { result ≡ is_value (slice_get row.now.cells place) }
+    ensures { result ≡ is_filled (slice_get row.now.cells place) }
 {
     match row.cells.get(place) {
         Some(cell) => cell.is_some(),

@@ -7,21 +7,25 @@ use Rattle.std.proofs.lemmas.Bool.Decides.{nat_tests}
 use Rattle.std.proofs.lemmas.List.{length-append, map-append, length-map}
 use Rattle.std.proofs.lemmas.List.Elements.{All-nil, All-push}
 use Rattle.std.proofs.lemmas.List.Folds.{list_all-append, list_any-append}
-use Rattle.std.proofs.lemmas.List.Quantifiers.{position-Some}
 use Rattle.std.proofs.lemmas.Slice.Eq.{bytes_eq-Decides}
 use Rattle.std.proofs.lemmas.Str.Ascii.{lowercase-lowercase, lowercase_is}
 use Rattle.word_tokens.specs.Words.{starts_word, continues_word, is_word_of, reserved_words, is_reserved_word, is_name_of}
 use Rattle.feature_expr.specs.Names.{among}
+use Rattle.feature_expr.specs.Expressions.{mentions, mentions_step}
+use Rattle.feature_expr.specs.Printing.{HasNames}
+use Rattle.feature_expr.proofs.OccurringLaws.{names_spelled}
 use Rattle.values.specs.Value.{kind_of}
 use Rattle.word_tokens.specs.Tokens.{bytes_of}
 use Rattle.feature_expr.specs.ExprGrammar.{Part, Disjunction, Conjunction, Negation, feature_of, Spells, one_conjunction, disjunction, one_negation, conjunction, negation, truth, falsehood, feature, brackets}
-use Rattle.feature_expr.specs.declared.expr.Expr.{Expr, fold-roll-Expr}
+use Rattle.feature_expr.specs.declared.expr.Expr.{Expr}
+use Rattle.feature_expr.specs.declared.expr.Expr.TheFolds.{fold-roll-Expr}
+use Rattle.feature_expr.specs.declared.expr.Expr.TheVariants.{rolls-True}
 use Rattle.feature_expr.specs.declared.expr.Expr as e
 use Rattle.feature_expr.specs.declared.expr.Expr.TheOpen.{Expr-F}
 use Rattle.word_tokens.specs.declared.token.Token.{Token}
 use Rattle.values.specs.declared.value.Value.{Value}
 use Rattle.vschema.specs.Limits.{table_limit}
-use Rattle.vschema.specs.Formed.{below_step, features_below, distinct, table_names, column_names, has_names, column_features_below, table_features_below, row_features_below, has_distinct_columns, CellsFit, FitsTable, RowFits, IsFormed}
+use Rattle.vschema.specs.Formed.{distinct, table_names, column_names, has_names, TableKnown, RowKnown, has_distinct_columns, CellsFit, FitsTable, RowFits, IsFormed}
 use Rattle.vschema.specs.Words.{spelled_name_at, lower, folded_at}
 use Rattle.vschema.specs.Spelling.{column_place, table_place, IsModel, no_model, some_model, IsWhen, no_when, some_when, IsColumn, ColumnsBefore, no_column_yet, another_column, AreColumns, IsTable, no_cells, CellsBefore, no_cell_yet, another_cell, AreCells, IsRow, IsEntry, tables_with, rows_with, EntriesTo, no_entry_yet, another_entry, SpellCatalogue}
 use Rattle.vschema.specs.declared.catalog.Catalog.{Catalog}
@@ -49,9 +53,6 @@ or_parts true b e = absurd (cc e)
 not_false : (a : Bool) → not a ≡ true → a ≡ false
 not_false false e = refl
 not_false true e = absurd (cc e)
-
-below : (i n : ℕ) → i < n → nat_lt i n ≡ true
-below i n h = grind (arith, nat_tests)
 
 all_more : {X : Type 0} (p : X → Bool) (xs : List X) (x : X) → list_all p xs ≡ true → p x ≡ true → list_all p (xs ++ x ∷ []) ≡ true
 all_more p xs x a b = list_all-append p xs (x ∷ []) ∙ rw (a, b) refl
@@ -87,29 +88,12 @@ or_assoc false b c = refl
 is_ascii_alphanumeric_is : (byte : ℕ) → is_ascii_alphanumeric byte ≡ ((nat_le 48 byte && nat_le byte 57) || is_ascii_alphabetic byte)
 is_ascii_alphanumeric_is byte = or_assoc (nat_le 48 byte && nat_le byte 57) (nat_le 65 byte && nat_le byte 90) (nat_le 97 byte && nat_le byte 122)
 
-or_is : (count : ℕ) (left right : Expr) → features_below count (e.Or left right) ≡ (features_below count left && features_below count right)
-unfolding e.roll-Expr denote.Hole.Carrier.roll
-or_is count left right = fold-roll-Expr Bool (below_step count) (Expr-F.Or left right)
+-- a condition that isn't written names no feature
+mentions_True : (i : ℕ) → mentions i e.True ≡ false
+mentions_True i = ap (mentions i) (sym rolls-True) ∙ fold-roll-Expr Bool (mentions_step i) Expr-F.True
 
-and_is : (count : ℕ) (left right : Expr) → features_below count (e.And left right) ≡ (features_below count left && features_below count right)
-unfolding e.roll-Expr denote.Hole.Carrier.roll
-and_is count left right = fold-roll-Expr Bool (below_step count) (Expr-F.And left right)
-
-not_is : (count : ℕ) (inner : Expr) → features_below count (e.Not inner) ≡ features_below count inner
-unfolding e.roll-Expr denote.Hole.Carrier.roll
-not_is count inner = fold-roll-Expr Bool (below_step count) (Expr-F.Not inner)
-
-feature_is : (count i : ℕ) → features_below count (e.Feature i) ≡ nat_lt i count
-unfolding e.roll-Expr denote.Hole.Carrier.roll
-feature_is count i = fold-roll-Expr Bool (below_step count) (Expr-F.Feature i)
-
-true_is : (count : ℕ) → features_below count e.True ≡ true
-unfolding e.roll-Expr denote.Hole.Carrier.roll
-true_is count = fold-roll-Expr Bool (below_step count) Expr-F.True
-
-false_is : (count : ℕ) → features_below count e.False ≡ true
-unfolding e.roll-Expr denote.Hole.Carrier.roll
-false_is count = fold-roll-Expr Bool (below_step count) Expr-F.False
+true_known : (names : List (List ℕ)) → HasNames names e.True
+true_known names i mentioned = absurd (cc (mentioned, mentions_True i))
 
 digit_large : (byte : ℕ) → is_ascii_alphabetic byte ≡ true → is_ascii_alphanumeric byte ≡ true
 digit_large byte h = let e : is_ascii_alphanumeric byte ≡ ((nat_le 48 byte && nat_le byte 57) || is_ascii_alphabetic byte) = is_ascii_alphanumeric_is byte in e ∙ rw h (or_true (nat_le 48 byte && nat_le byte 57))
@@ -232,36 +216,19 @@ module _ (names : List (List ℕ)) (text : List ℕ) (tokens : List Token) where
   unfolding folded_at
   folded_is_name at name e = folded_from at name (spelled_name_at text tokens at) refl e
 
-  feature_within : (token : Option Token) (i : ℕ) → feature_of names text token ≡ Some i → nat_lt i (length names) ≡ true
-  feature_within (Some token) i e = below i (length names) (position-Some (λ name. bytes_eq name (bytes_of text token)) names i [] e).0
-  feature_within None i e = absurd (cc e)
+  when_known : (nesting at : ℕ) (cond : Expr) (end : ℕ) → IsWhen names text tokens nesting at cond end → HasNames names cond
+  when_known nesting at cond end (no_when other) = true_known names
+  when_known nesting at cond end (some_when expr last begins is) = names_spelled names text tokens (Disjunction nesting) (at + 1) expr last is.spelled
 
-  spelled_known : (part : Part) (at end : ℕ) (expr : Expr) → Spells names text tokens part at expr end → features_below (length names) expr ≡ true
-  spelled_known part from to all (one_conjunction n at end expr s) = spelled_known (Conjunction n) at end expr s
-  spelled_known part from to all (disjunction n at middle end left right s sign t) =
-      or_is (length names) left right ∙ both (features_below (length names) left) (features_below (length names) right) (spelled_known (Disjunction n) at middle left s) (spelled_known (Conjunction n) (middle + 1) end right t)
-  spelled_known part from to all (one_negation n at end expr s) = spelled_known (Negation n) at end expr s
-  spelled_known part from to all (conjunction n at middle end left right s sign t) =
-      and_is (length names) left right ∙ both (features_below (length names) left) (features_below (length names) right) (spelled_known (Conjunction n) at middle left s) (spelled_known (Negation n) (middle + 1) end right t)
-  spelled_known part from to all (negation n at end inner sign s) = not_is (length names) inner ∙ spelled_known (Negation (n + 1)) (at + 1) end inner s
-  spelled_known part from to all (truth n at sign) = true_is (length names)
-  spelled_known part from to all (falsehood n at sign) = false_is (length names)
-  spelled_known part from to all (feature n at i sign found) = feature_is (length names) i ∙ feature_within (slice_get tokens at) i found
-  spelled_known part from to all (brackets n at end expr opens s closes) = spelled_known (Disjunction (n + 1)) (at + 1) end expr s
-
-  when_known : (nesting at : ℕ) (cond : Expr) (end : ℕ) → IsWhen names text tokens nesting at cond end → features_below (length names) cond ≡ true
-  when_known nesting at cond end (no_when other) = true_is (length names)
-  when_known nesting at cond end (some_when expr last begins is) = spelled_known (Disjunction nesting) (at + 1) last expr is.spelled
-
-  model_known : (at : ℕ) (model : Expr) (end : ℕ) → IsModel names text tokens at model end → features_below (length names) model ≡ true
-  model_known at model end (no_model other) = true_is (length names)
-  model_known at model end (some_model expr last begins is stops) = spelled_known (Disjunction 0) (at + 1) last expr is.spelled
+  model_known : (at : ℕ) (model : Expr) (end : ℕ) → IsModel names text tokens at model end → HasNames names model
+  model_known at model end (no_model other) = true_known names
+  model_known at model end (some_model expr last begins is stops) = names_spelled names text tokens (Disjunction 0) (at + 1) expr last is.spelled
 
   -- columns that have names, each its own, and whose conditions have known features
   record Columns (columns : List Column) : Type 0 where
     pub named : list_all is_name_of (column_names columns) ≡ true
     pub once : distinct (column_names columns) ≡ true
-    pub known : list_all (column_features_below (length names)) columns ≡ true
+    pub known : All (λ (column : Column). HasNames names column.cond) columns
 
   names_more : (columns : List Column) (column : Column) → column_names (columns ++ column ∷ []) ≡ column_names columns ++ column.name ∷ []
   names_more columns column = map-append (λ (c : Column). c.name) columns (column ∷ [])
@@ -270,11 +237,11 @@ module _ (names : List (List ℕ)) (text : List ℕ) (tokens : List Token) where
   one_column columns column at end so is = record {
     named = rw (names_more columns column) (all_more is_name_of (column_names columns) column.name so.named (folded_is_name at column.name is.is_new.named));
     once = rw (names_more columns column) (distinct_more (column_names columns) column.name so.once (new_column column.name columns is.is_new.fresh));
-    known = all_more (column_features_below (length names)) columns column so.known (when_known 1 (at + 2) column.cond end is.condition);
+    known = All-push (λ (column : Column). HasNames names column.cond) columns column so.known (when_known 1 (at + 2) column.cond end is.condition);
   }
 
   columns_before : (from : ℕ) (columns : List Column) (at : ℕ) → ColumnsBefore names text tokens from columns at → Columns columns
-  columns_before from all to no_column_yet = record { named = refl; once = refl; known = refl }
+  columns_before from all to no_column_yet = record { named = refl; once = refl; known = All-nil (λ (column : Column). HasNames names column.cond) }
   columns_before from all to (another_column columns column at end before is comma) = one_column columns column at end (columns_before from columns at before) is
 
   columns_formed : (from : ℕ) (columns : List Column) (end : ℕ) → AreColumns names text tokens from columns end → Columns columns
@@ -291,8 +258,8 @@ module _ (names : List (List ℕ)) (text : List ℕ) (tokens : List Token) where
   record Entries (tables : List Table) (rows : List OpeningRow) : Type 0 where
     pub within : length tables ≤ table_limit
     pub named : list_all has_names tables ≡ true
-    pub tables_known : list_all (table_features_below (length names)) tables ≡ true
-    pub rows_known : list_all (row_features_below (length names)) rows ≡ true
+    pub tables_known : All (TableKnown names) tables
+    pub rows_known : All (RowKnown names) rows
     pub once : distinct (table_names tables) ≡ true
     pub columns_once : list_all has_distinct_columns tables ≡ true
     pub fitting : All (RowFits tables) rows
@@ -306,7 +273,7 @@ module _ (names : List (List ℕ)) (text : List ℕ) (tokens : List Token) where
       record {
         within = omega (arith, length-append tables (table ∷ []), is.is_new.within);
         named = all_more has_names tables table so.named (both (is_name_of table.name) (list_all is_name_of (column_names table.columns)) (folded_is_name (at + 1) table.name is.is_new.named) columns.named);
-        tables_known = all_more (table_features_below (length names)) tables table so.tables_known (both (features_below (length names) table.cond) (list_all (column_features_below (length names)) table.columns) (when_known 0 is.behind table.cond is.tail.last is.tail.condition) columns.known);
+        tables_known = All-push (TableKnown names) tables table so.tables_known (record { table_known = when_known 0 is.behind table.cond is.tail.last is.tail.condition; columns_known = columns.known });
         rows_known = so.rows_known;
         once = rw (tables_more tables table) (distinct_more (table_names tables) table.name so.once (new_table table.name tables is.is_new.fresh));
         columns_once = all_more has_distinct_columns tables table so.columns_once columns.once;
@@ -320,7 +287,7 @@ module _ (names : List (List ℕ)) (text : List ℕ) (tokens : List Token) where
         within = so.within;
         named = so.named;
         tables_known = so.tables_known;
-        rows_known = all_more (row_features_below (length names)) rows row so.rows_known (when_known 0 is.behind row.cond is.tail.last is.tail.condition);
+        rows_known = All-push (RowKnown names) rows row so.rows_known (when_known 0 is.behind row.cond is.tail.last is.tail.condition);
         once = so.once;
         columns_once = so.columns_once;
         fitting = All-push (RowFits tables) rows row so.fitting fits;
@@ -331,7 +298,7 @@ module _ (names : List (List ℕ)) (text : List ℕ) (tokens : List Token) where
   one_entry tables rows at end (entry.Row row) so is = one_row tables rows at end row so is
 
   entries_formed : (from : ℕ) (tables : List Table) (rows : List OpeningRow) (end : ℕ) → EntriesTo names text tokens from tables rows end → Entries tables rows
-  entries_formed from all all_rows to no_entry_yet = record { within = omega arith; named = refl; tables_known = refl; rows_known = refl; once = refl; columns_once = refl; fitting = All-nil (RowFits []) }
+  entries_formed from all all_rows to no_entry_yet = record { within = omega arith; named = refl; tables_known = All-nil (TableKnown names); rows_known = All-nil (RowKnown names); once = refl; columns_once = refl; fitting = All-nil (RowFits []) }
   entries_formed from all all_rows to (another_entry tables rows e at end before is) = one_entry tables rows at end e (entries_formed from tables rows at before) is
 
 -- what all tokens spell is formed

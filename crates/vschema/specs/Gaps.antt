@@ -1,6 +1,6 @@
 -- Gaps of a catalogue in one variant: a table that is there without a column, a row that is there without a value in a
 -- column that is there.
-use Rattle.std.specs.Prelude.{Bool, true, false, not, ◌&&◌, ℕ, List, [], ◌∷◌, Option, Some, None, slice_get}
+use Rattle.std.specs.Prelude.{Bool, true, not, ◌&&◌, ℕ, List, [], ◌∷◌, Option, Some, None, slice_get}
 use Rattle.std.specs.List.{list_any, list_all}
 use Rattle.feature_expr.specs.Satisfaction.{satisfies}
 use Rattle.values.specs.declared.value.Value.{Value}
@@ -18,11 +18,6 @@ lacks_columns c table = satisfies c table.cond && not (list_any (is_column_there
 -- whether a row of a table is there
 abbrev pub has_row : List ℕ → Table → OpeningRow → Bool
 has_row c table row = satisfies c table.cond && satisfies c row.cond
-
--- whether there is a value at a cell place
-abbrev pub is_value : Option (Option Value) → Bool
-is_value (Some (Some value)) = true
-is_value _ = false
 
 -- the columns of a table for which a list of cells has no value
 abbrev pub columns_without : List Column → List (Option Value) → List Column

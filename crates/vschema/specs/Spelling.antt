@@ -115,6 +115,7 @@ pub record IsTable (names : List (List ℕ)) (text : List ℕ) (tokens : List To
 abbrev pub no_cells : List Column → List (Option Value)
 no_cells columns = map (λ (column : Column). None) columns
 
+-- whether there is a value at a cell place
 abbrev pub is_filled : Option (Option Value) → Bool
 is_filled (Some cell) = is_some cell
 is_filled None = false

@@ -100,12 +100,12 @@ fn rows_there(
 {
     let mut there = Vec::new(alloc);
     for row in rows {
-        put_row(alloc, fates, row, config, &mut there)?;
+        add_row(alloc, fates, row, config, &mut there)?;
     }
     Ok(there)
 }
 
-fn put_row(
+fn add_row(
     alloc: Global,
     fates: &[Fate],
     row: &VRow,

@@ -48,7 +48,7 @@ pub fn grouped(alloc: Global, rows: Vec<CutRow>) -> Result<Vec<Group>, Memory>
     let mut groups = Vec::new(alloc);
     let mut current = None;
     for row in rows {
-        let group = put_row(alloc, &mut groups, current, row)?;
+        let group = put_in_group(alloc, &mut groups, current, row)?;
         current = Some(group);
     }
     let groups = closed(groups, current)?;
@@ -70,7 +70,7 @@ fn closed(groups: Vec<Group>, current: Option<Group>) -> Result<Vec<Group>, Memo
 }
 
 /// Puts a row behind those that are grouped already, and answers its group, which may go on.
-fn put_row(
+fn put_in_group(
     alloc: Global,
     groups: &mut Vec<Group>,
     current: Option<Group>,
