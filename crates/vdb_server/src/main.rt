@@ -1,29 +1,12 @@
 //! The program: it makes the real objects, runs the command that its words name, and tells how it ended.
 #![tactic(auto)]
 
-mod check_line;
-mod exit;
-mod laws;
-mod mem_files;
-mod mem_sink;
-mod real_files;
-mod replay;
-mod sink;
-mod source;
-#[cfg(test)]
-mod tests;
-mod tool;
-mod writer_sink;
-
-use exit::{Exit, fault_line, status};
-use real_files::RealFiles;
 use std::alloc::AllocError;
 use std::io::ErrorKind;
 use std::process::ExitCode;
 use std::rt::Runtime;
 use std::{env, io, str};
-use tool::run_tool;
-use writer_sink::WriterSink;
+use top_calls::{Exit, OpenedFiles, SystemFiles, WriterSink, fault_line, run_tool, status};
 
 fn main(rt: HostRuntime) -> ExitCode {
     let exit = run(&rt);
@@ -42,7 +25,7 @@ fn run<R: Runtime + AllocGlobal>(rt: &R) -> Exit {
         Err(error) if error.kind() == ErrorKind::OutOfMemory => return Exit::Memory,
         Err(_error) => return Exit::Usage,
     };
-    let mut files = RealFiles::new(rt);
+    let mut files = OpenedFiles::new(SystemFiles::new(rt));
     let mut out = WriterSink::new(io::writer(rt));
     run_tool(rt.alloc(), words.as_slice(), &mut files, &mut out)
 }

@@ -1,0 +1,7 @@
+use Rattle.std.proofs.Common.{rules}
+use Rattle.top_calls.proofs.ReplayLaws.{sent_on}
+use Rattle.top_calls.proofs.replay.put_waiting.Goals as goal
+
+pub returns-clause-on : goal.returns-clause-on
+returns-clause-on g c =
+    sent_on c.args.stream.now c.args.fed c.waiting.result (g.O.Sink.held c.args.out.now).bytes (g.O.Sink.held c.put_all.new.out).bytes c.args.session.now c.take.new.self c.take.ensures.at (search rules) c.take.ensures.over (search rules)

@@ -1,7 +1,0 @@
-use Rattle.std.proofs.Common.{rules}
-use Rattle.vdb_server.proofs.ReplayLaws.{sent_on}
-use Rattle.vdb_server.proofs.replay.put_waiting.Goals as goal
-
-pub returns-clause-on : goal.returns-clause-on
-returns-clause-on g c =
-    sent_on c.args.stream.now c.args.fed c.waiting.result (g.O.Sink.held c.args.out.now).bytes (g.O.Sink.held c.put_all.new.out).bytes c.args.session.now c.take.new.self c.take.ensures.at (search rules) c.take.ensures.over (search rules)

@@ -1,4 +1,0 @@
-use Rattle.vdb_server.proofs.replay.replay.Goals as goal
-
-pub drive-exit-requires-clause-first : goal.drive-exit-requires-clause-first
-drive-exit-requires-clause-first g c = c.in-Ok.ensures.at c.args.opening.now

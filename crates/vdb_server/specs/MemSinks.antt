@@ -1,7 +1,0 @@
--- What a sink in memory holds.
-use Rattle.std.specs.Prelude.{Some}
-use Rattle.vdb_server.specs.Sinks.{Held}
-use Rattle.vdb_server.specs.declared.mem_sink.MemSink.{MemSink}
-
-abbrev pub held_of : MemSink → Held
-held_of s = record { bytes = Some s.bytes; faults = s.faults }
