@@ -43,7 +43,7 @@ begun old new idle put state keeps room =
 -- memory ran out
 pub not_begun : (old new : Session) → old.transaction ≡ transactions.Idle → waiting_of new ≡ waiting_of old → KeepsState old new → new.output.is_ready ≡ true → Done Begins old (Some refusal.OutOfMemory) new
 not_begun old new idle put keeps room =
-    let c : Course = stops refusal.OutOfMemory (state_of old) in
+    let c : Course = stops [] refusal.OutOfMemory (state_of old) in
     record {
       course = c;
       part_is = subst (λ t. BeginsIn t (state_of old) c) (sym idle) (inr refl);

@@ -26,7 +26,8 @@ use Rattle.session_poll.specs.Replies.{spelled}
 use Rattle.session_poll.specs.Runs.{HasSnapshot}
 use Rattle.session_poll.specs.Session.{state_of, held_of}
 use Rattle.session_poll.specs.Standing.{works}
-use Rattle.session_poll.specs.StartUps.{Rejects, StartsUp}
+use Rattle.session_poll.specs.Errors.{Rejects}
+use Rattle.session_poll.specs.StartUps.{StartsUp}
 use Rattle.session_poll.specs.State.{State, in_phase}
 use Rattle.session_poll.specs.Steps.{Handles, RefusesStart, Step}
 use Rattle.vra_syntax.specs.declared.statement.Statement.{Statement}

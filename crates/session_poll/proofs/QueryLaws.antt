@@ -1,7 +1,7 @@
 -- The query rule, part by part.
 use Rattle.std.proofs.Common.{◌≡◌, ◌∙◌, ℕ, false, List, [], ◌∷◌, ◌++◌, inl, inr, ◌⊎◌, Option, Some, None, Ok, Err, refl, sym, ap, subst, append-nil}
 use Rattle.pg_messages.specs.declared.back.Back.{Back}
-use Rattle.session_poll.specs.declared.fixed.TheConstants.{EMPTY_AND_READY, NOT_BUILT, NOT_UTF8_AND_READY, OUT_OF_MEMORY_AND_READY, READY}
+use Rattle.session_poll.specs.declared.replies.TheConstants.{EMPTY_AND_READY, NOT_BUILT, NOT_UTF8_AND_READY, OUT_OF_MEMORY_AND_READY, READY}
 use Rattle.session_poll.specs.declared.opening.Opening.{Opening}
 use Rattle.session_poll.specs.declared.refusal.Refusal.{Refusal}
 use Rattle.session_poll.specs.declared.refusal.Refusal.TheVariants as refusal
@@ -9,16 +9,16 @@ use Rattle.session_poll.specs.declared.session.Session.{Session}
 use Rattle.session_poll.specs.declared.state.Phase.TheVariants as phases
 use Rattle.session_poll.specs.Begins.{Begins}
 use Rattle.session_poll.specs.Courses.{Course, Follows, Then, goes, both}
-use Rattle.session_poll.specs.Parts.{KeepsState, IsReady, IsEnded, IsTaken, Done, Takes, Told, ToldEnd, Failed}
-use Rattle.session_poll.specs.Queries.{IsTextRead, is_fixed, Queries, RunsAs, RunsStatement, RunsAll, SaysEmpty, Runs, RunsOut, Closes, EndsQuery}
-use Rattle.session_poll.specs.Replies.{spelled, error_of, empty_query, ready_for_query}
+use Rattle.session_poll.specs.Parts.{Keeps, KeepsState, IsReady, IsEnded, IsTaken, Done, Takes, Told, ToldEnd, Failed, ready}
+use Rattle.session_poll.specs.Queries.{AnswersStatements, IsTextRead, Queries, Readies, RunsAs, RunsStatement, RunsOut, EndsQuery}
+use Rattle.session_poll.specs.Replies.{spelled, error_of, empty_query, out_of_memory, ready_for_query}
 use Rattle.session_poll.specs.Runs.{HasSnapshot}
 use Rattle.session_poll.specs.Session.{state_of, waiting_of}
-use Rattle.session_poll.specs.StartUps.{Rejects}
-use Rattle.session_poll.specs.State.{State, in_phase, ready, ended}
+use Rattle.session_poll.specs.Errors.{Closes, Rejects, Runs, is_fixed}
+use Rattle.session_poll.specs.State.{State, in_phase, ended}
 use Rattle.session_poll.specs.Tables.{bare_table, AnswersTable}
 use Rattle.vra_syntax.specs.declared.statement.Statement.{Statement}
-use Rattle.session_poll.proofs.CourseLaws.{put_behind, put_bytes, fit_append, keeps_on, log_closed}
+use Rattle.session_poll.proofs.CourseLaws.{put_behind, put_bytes, fit_append, keeps_on, log_closed, log_kept}
 use Rattle.session_poll.proofs.FixedLaws.{empty_and_ready_is, not_built_is, not_utf8_and_ready_is, out_of_memory_and_ready_is, ready_is}
 
 pub then_goes : (first second : State → Course → Type 0) (old mid new : Session) (refused : Option Refusal) → Done first old None mid → Done second mid refused new → Done (Then first second) old refused new
@@ -62,7 +62,7 @@ runs_through part old new d = record {
 
 pub runs_failed : (part : State → Course → Type 0) (old mid new : Session) (why : Refusal) → Done part old (Some why) mid → Failed why mid new → Takes (Runs part) old new
 runs_failed part old mid new why d f =
-    let c : Course = goes d.course.events (d.course.replies ++ f.message ∷ ready_for_query ∷ []) (ready d.course.after) in
+    let c : Course = goes d.course.events (d.course.replies ++ f.message ∷ ready_for_query (ready d.course.after) ∷ []) (ready d.course.after) in
     let state : state_of new ≡ ready d.course.after = f.state ∙ ap ready d.state in
     record {
       course = c;
@@ -72,7 +72,7 @@ runs_failed part old mid new why d f =
         closes = subst (λ r. Closes r d.course c) (sym d.refused_is) (record { message = f.message; told = f.told; course = refl });
       };
       state = state;
-      put = put_behind (waiting_of old) (waiting_of mid) (waiting_of new) d.course.replies (f.message ∷ ready_for_query ∷ []) d.put f.put;
+      put = put_behind (waiting_of old) (waiting_of mid) (waiting_of new) d.course.replies (f.message ∷ ready_for_query (ready d.course.after) ∷ []) d.put f.put;
       keeps = keeps_on old mid new d.keeps f.keeps;
       fits = λ has. ((d.fits has).0, (log_closed old new (ready d.course.after) (goes [] [] (ready d.course.after)) state refl refl has).1);
     }
@@ -90,12 +90,20 @@ runs_other opening first left old new is t =
     takes_as Rejects (RunsStatement opening first left) old new (λ c r. subst (λ n. RunsAs opening n left (state_of old) c) (sym is) r) t
 
 -- the statements of a text
-pub runs_first : (opening : Opening) (all : List Statement) (first : Statement) (left : List Statement) (old new : Session) → all ≡ first ∷ left → Takes (RunsStatement opening first left) old new → Takes (RunsAll opening all) old new
-runs_first opening all first left old new is t =
-    takes_as (RunsStatement opening first left) (RunsAll opening all) old new (λ c r. subst (λ l. RunsAll opening l (state_of old) c) (sym is) r) t
+pub leaves : (all : List Statement) (first : Statement) (left : List Statement) (old new : Session) → all ≡ first ∷ left → waiting_of new ≡ waiting_of old → state_of new ≡ in_phase (phases.Statements first left) (state_of old) → Keeps old new → Takes (AnswersStatements all) old new
+leaves all first left old new is waiting state keeps =
+    let after : State = in_phase (phases.Statements first left) (state_of old) in
+    record {
+      course = goes [] [] after;
+      rule_is = subst (λ l. AnswersStatements l (state_of old) (goes [] [] after)) (sym is) refl;
+      state = state;
+      put = waiting ∙ sym (append-nil (waiting_of old));
+      keeps = keeps;
+      fits = log_kept old new (goes [] [] after) (ap (λ (x : State). x.transaction) state) refl;
+    }
 
-pub runs_none : (opening : Opening) (all : List Statement) (old new : Session) → all ≡ [] → Takes SaysEmpty old new → Takes (RunsAll opening all) old new
-runs_none opening all old new is t = takes_as SaysEmpty (RunsAll opening all) old new (λ c r. subst (λ l. RunsAll opening l (state_of old) c) (sym is) r) t
+pub leaves_none : (all : List Statement) (old new : Session) → all ≡ [] → Takes (Readies (empty_query ∷ [])) old new → Takes (AnswersStatements all) old new
+leaves_none all old new is t = takes_as (Readies (empty_query ∷ [])) (AnswersStatements all) old new (λ c r. subst (λ l. AnswersStatements l (state_of old) c) (sym is) r) t
 
 -- the next statement leaves its phase
 pub goes_on : (opening : Opening) (first : Statement) (left : List Statement) (old mid new : Session) → IsTaken old mid → Takes (RunsStatement opening first left) mid new → Takes (λ s c. RunsStatement opening first left (in_phase phases.Ready s) c) old new
@@ -109,13 +117,13 @@ goes_on opening first left old mid new taken t = record {
 }
 
 -- a text, by what it is read as
-pub query_read : (opening : Opening) (text : List ℕ) (statements : List Statement) (old new : Session) → IsTextRead opening.catalog.features text (Ok statements) → Takes (RunsAll opening statements) old new → Takes (Queries opening text) old new
-query_read opening text statements old new read t =
-    takes_as (RunsAll opening statements) (Queries opening text) old new (λ c r. record { read = Ok statements; is_read = read; course = r }) t
+pub query_read : (features : List (List ℕ)) (text : List ℕ) (statements : List Statement) (old new : Session) → IsTextRead features text (Ok statements) → Takes (AnswersStatements statements) old new → Takes (Queries features text) old new
+query_read features text statements old new read t =
+    takes_as (AnswersStatements statements) (Queries features text) old new (λ c r. record { read = Ok statements; is_read = read; course = r }) t
 
-pub query_refused : (opening : Opening) (text : List ℕ) (why : Refusal) (old new : Session) → IsTextRead opening.catalog.features text (Err why) → Failed why old new → Takes (Queries opening text) old new
-query_refused opening text why old new read f =
-    let c : Course = goes [] (f.message ∷ ready_for_query ∷ []) (ready (state_of old)) in
+pub query_refused : (features : List (List ℕ)) (text : List ℕ) (why : Refusal) (old new : Session) → IsTextRead features text (Err why) → Failed why old new → Takes (Queries features text) old new
+query_refused features text why old new read f =
+    let c : Course = goes [] (f.message ∷ ready_for_query (ready (state_of old)) ∷ []) (ready (state_of old)) in
     record {
       course = c;
       rule_is = record { read = Err why; is_read = read; course = record { message = f.message; told = f.told; course = refl } };
@@ -125,12 +133,12 @@ query_refused opening text why old new read f =
       fits = log_closed old new (ready (state_of old)) c f.state refl refl;
     }
 
-pub said_empty : (old mid new : Session) → IsReady mid new → waiting_of mid ≡ waiting_of old ++ EMPTY_AND_READY.now → KeepsState old mid → Takes SaysEmpty old new
+pub said_empty : (old mid new : Session) → IsReady mid new → waiting_of mid ≡ waiting_of old ++ EMPTY_AND_READY.now → KeepsState old mid → Takes (Readies (empty_query ∷ [])) old new
 said_empty old mid new r put keeps = record {
-  course = goes [] (empty_query ∷ ready_for_query ∷ []) (ready (state_of old));
+  course = goes [] (empty_query ∷ ready_for_query (ready (state_of old)) ∷ []) (ready (state_of old));
   rule_is = refl;
   state = r.state;
-  put = ap (λ o. o.bytes) r.output ∙ put ∙ ap (λ (b : List ℕ). waiting_of old ++ b) empty_and_ready_is;
+  put = ap (λ o. o.bytes) r.output ∙ put ∙ ap (λ (b : List ℕ). waiting_of old ++ b) (empty_and_ready_is (state_of old));
   keeps = keeps_on old mid new keeps.input r.input;
   fits = log_closed old new (ready (state_of old)) (goes [] [] (ready (state_of old))) r.state refl refl;
 }
@@ -139,32 +147,32 @@ pub told_error : (why : Refusal) (old mid new : Session) → waiting_of mid ≡ 
 told_error why old mid new m n keeps = record {
   message = error_of why;
   told = inl refl;
-  put = put_bytes (waiting_of old) (waiting_of mid) (waiting_of new) READY.now (error_of why ∷ []) (ready_for_query ∷ []) ready_is m n;
+  put = put_bytes (waiting_of old) (waiting_of mid) (waiting_of new) READY.now (error_of why ∷ []) (ready_for_query (ready (state_of old)) ∷ []) (ready_is (state_of old)) m n;
   keeps = keeps;
 }
 
-out_put : (old mid new : List ℕ) → mid ≡ old → new ≡ mid ++ OUT_OF_MEMORY_AND_READY.now → new ≡ old ++ spelled (error_of refusal.OutOfMemory ∷ ready_for_query ∷ [])
-out_put old mid new m n = n ∙ ap (λ (b : List ℕ). b ++ OUT_OF_MEMORY_AND_READY.now) m ∙ ap (λ (b : List ℕ). old ++ b) out_of_memory_and_ready_is
+out_put : (s : State) (old mid new : List ℕ) → mid ≡ old → new ≡ mid ++ OUT_OF_MEMORY_AND_READY.now → new ≡ old ++ spelled (out_of_memory ∷ ready_for_query (ready s) ∷ [])
+out_put s old mid new m n = n ∙ ap (λ (b : List ℕ). b ++ OUT_OF_MEMORY_AND_READY.now) m ∙ ap (λ (b : List ℕ). old ++ b) (out_of_memory_and_ready_is s)
 
-told_fixed : (why known : Refusal) (bytes : List ℕ) (old new : Session) → why ≡ known → bytes ≡ spelled (error_of known ∷ ready_for_query ∷ []) → waiting_of new ≡ waiting_of old ++ bytes → KeepsState old new → Told why old new
+told_fixed : (why known : Refusal) (bytes : List ℕ) (old new : Session) → why ≡ known → bytes ≡ spelled (error_of known ∷ ready_for_query (ready (state_of old)) ∷ []) → waiting_of new ≡ waiting_of old ++ bytes → KeepsState old new → Told why old new
 told_fixed why known bytes old new is fixed put keeps = record {
   message = error_of why;
   told = inl refl;
-  put = put ∙ ap (λ (b : List ℕ). waiting_of old ++ b) (fixed ∙ ap (λ w. spelled (error_of w ∷ ready_for_query ∷ [])) (sym is));
+  put = put ∙ ap (λ (b : List ℕ). waiting_of old ++ b) (fixed ∙ ap (λ w. spelled (error_of w ∷ ready_for_query (ready (state_of old)) ∷ [])) (sym is));
   keeps = keeps;
 }
 
 pub told_not_utf8 : (why : Refusal) (old new : Session) → why ≡ refusal.NotUtf8 → waiting_of new ≡ waiting_of old ++ NOT_UTF8_AND_READY.now → KeepsState old new → Told why old new
-told_not_utf8 why old new is put keeps = told_fixed why refusal.NotUtf8 NOT_UTF8_AND_READY.now old new is not_utf8_and_ready_is put keeps
+told_not_utf8 why old new is put keeps = told_fixed why refusal.NotUtf8 NOT_UTF8_AND_READY.now old new is (not_utf8_and_ready_is (state_of old)) put keeps
 
 pub told_out_of_memory : (why : Refusal) (old new : Session) → why ≡ refusal.OutOfMemory → waiting_of new ≡ waiting_of old ++ OUT_OF_MEMORY_AND_READY.now → KeepsState old new → Told why old new
-told_out_of_memory why old new is put keeps = told_fixed why refusal.OutOfMemory OUT_OF_MEMORY_AND_READY.now old new is out_of_memory_and_ready_is put keeps
+told_out_of_memory why old new is put keeps = told_fixed why refusal.OutOfMemory OUT_OF_MEMORY_AND_READY.now old new is (out_of_memory_and_ready_is (state_of old)) put keeps
 
 pub told_memory : (why : Refusal) (old mid new : Session) → is_fixed why ≡ false → waiting_of mid ≡ waiting_of old → waiting_of new ≡ waiting_of mid ++ OUT_OF_MEMORY_AND_READY.now → KeepsState old new → Told why old new
 told_memory why old mid new takes m n keeps = record {
-  message = error_of refusal.OutOfMemory;
+  message = out_of_memory;
   told = inr (takes, refl);
-  put = out_put (waiting_of old) (waiting_of mid) (waiting_of new) m n;
+  put = out_put (state_of old) (waiting_of old) (waiting_of mid) (waiting_of new) m n;
   keeps = keeps;
 }
 
@@ -179,12 +187,12 @@ failed why old mid new t r = record {
 
 pub told_complete : (complete : Back) (old mid new : Session) → waiting_of mid ≡ waiting_of old ++ spelled (complete ∷ []) → waiting_of new ≡ waiting_of mid ++ READY.now → KeepsState old new → ToldEnd complete old new
 told_complete complete old mid new m n keeps = record {
-  put = inl (put_bytes (waiting_of old) (waiting_of mid) (waiting_of new) READY.now (complete ∷ []) (ready_for_query ∷ []) ready_is m n);
+  put = inl (put_bytes (waiting_of old) (waiting_of mid) (waiting_of new) READY.now (complete ∷ []) (ready_for_query (ready (state_of old)) ∷ []) (ready_is (state_of old)) m n);
   keeps = keeps;
 }
 
 pub told_no_complete : (complete : Back) (old mid new : Session) → waiting_of mid ≡ waiting_of old → waiting_of new ≡ waiting_of mid ++ OUT_OF_MEMORY_AND_READY.now → KeepsState old new → ToldEnd complete old new
-told_no_complete complete old mid new m n keeps = record { put = inr (out_put (waiting_of old) (waiting_of mid) (waiting_of new) m n); keeps = keeps }
+told_no_complete complete old mid new m n keeps = record { put = inr (out_put (state_of old) (waiting_of old) (waiting_of mid) (waiting_of new) m n); keeps = keeps }
 
 -- the Query's end, by what was told
 ends_as : (complete : Back) (replies : List Back) (old mid new : Session) → waiting_of mid ≡ waiting_of old ++ spelled replies → KeepsState old mid → IsReady mid new → EndsQuery complete (state_of old) (goes [] replies (ready (state_of old))) → Takes (EndsQuery complete) old new
@@ -197,19 +205,19 @@ ends_as complete replies old mid new put keeps r is = record {
   fits = log_closed old new (ready (state_of old)) (goes [] replies (ready (state_of old))) r.state refl refl;
 }
 
-ends_by : (complete : Back) (old mid new : Session) → KeepsState old mid → IsReady mid new → (waiting_of mid ≡ waiting_of old ++ spelled (complete ∷ ready_for_query ∷ [])) ⊎ (waiting_of mid ≡ waiting_of old ++ spelled (error_of refusal.OutOfMemory ∷ ready_for_query ∷ [])) → Takes (EndsQuery complete) old new
-ends_by complete old mid new keeps r (inl put) = ends_as complete (complete ∷ ready_for_query ∷ []) old mid new put keeps r (inl refl)
-ends_by complete old mid new keeps r (inr put) = ends_as complete (error_of refusal.OutOfMemory ∷ ready_for_query ∷ []) old mid new put keeps r (inr refl)
+ends_by : (complete : Back) (old mid new : Session) → KeepsState old mid → IsReady mid new → (waiting_of mid ≡ waiting_of old ++ spelled (complete ∷ ready_for_query (ready (state_of old)) ∷ [])) ⊎ (waiting_of mid ≡ waiting_of old ++ spelled (out_of_memory ∷ ready_for_query (ready (state_of old)) ∷ [])) → Takes (EndsQuery complete) old new
+ends_by complete old mid new keeps r (inl put) = ends_as complete (complete ∷ ready_for_query (ready (state_of old)) ∷ []) old mid new put keeps r (inl refl)
+ends_by complete old mid new keeps r (inr put) = ends_as complete (out_of_memory ∷ ready_for_query (ready (state_of old)) ∷ []) old mid new put keeps r (inr refl)
 
 pub ends_query : (complete : Back) (old mid new : Session) → ToldEnd complete old mid → IsReady mid new → Takes (EndsQuery complete) old new
 ends_query complete old mid new t r = ends_by complete old mid new t.keeps r t.put
 
 pub ran_out : (old mid new : Session) → IsReady mid new → waiting_of mid ≡ waiting_of old ++ OUT_OF_MEMORY_AND_READY.now → KeepsState old mid → Takes RunsOut old new
 ran_out old mid new r put keeps = record {
-  course = goes [] (error_of refusal.OutOfMemory ∷ ready_for_query ∷ []) (ready (state_of old));
+  course = goes [] (out_of_memory ∷ ready_for_query (ready (state_of old)) ∷ []) (ready (state_of old));
   rule_is = refl;
   state = r.state;
-  put = ap (λ o. o.bytes) r.output ∙ put ∙ ap (λ (b : List ℕ). waiting_of old ++ b) out_of_memory_and_ready_is;
+  put = ap (λ o. o.bytes) r.output ∙ put ∙ ap (λ (b : List ℕ). waiting_of old ++ b) (out_of_memory_and_ready_is (state_of old));
   keeps = keeps_on old mid new keeps.input r.input;
   fits = log_closed old new (ready (state_of old)) (goes [] [] (ready (state_of old))) r.state refl refl;
 }

@@ -1,17 +1,17 @@
 -- The start-up rule.
 use Rattle.std.proofs.Common.{◌≡◌, ◌∙◌, ℕ, Bool, true, false, MatchBool, List, [], ◌∷◌, ◌++◌, inl, inr, refl, sym, ap, true≢false}
 use Rattle.pg_messages.specs.declared.startup.Startup.{Startup}
-use Rattle.session_poll.specs.declared.fixed.TheConstants.{OUT_OF_MEMORY}
+use Rattle.session_poll.specs.declared.replies.TheConstants.{OUT_OF_MEMORY}
 use Rattle.session_poll.specs.declared.opening.Opening.{Opening}
-use Rattle.session_poll.specs.declared.refusal.Refusal.TheVariants as refusal
 use Rattle.session_poll.specs.declared.session.Session.{Session}
 use Rattle.session_poll.specs.declared.state.Phase.TheVariants as phases
 use Rattle.session_poll.specs.Courses.{goes}
 use Rattle.session_poll.specs.Parts.{KeepsState, Keeps, Takes}
-use Rattle.session_poll.specs.Replies.{spelled, error_of}
+use Rattle.session_poll.specs.Replies.{spelled, out_of_memory}
 use Rattle.session_poll.specs.Session.{state_of, waiting_of}
-use Rattle.session_poll.specs.StartUps.{is_taken, welcome, Welcomes, Rejects, StartsUp}
-use Rattle.session_poll.specs.State.{State, in_phase}
+use Rattle.session_poll.specs.Errors.{Rejects}
+use Rattle.session_poll.specs.StartUps.{is_taken, welcome, Welcomes, StartsUp}
+use Rattle.session_poll.specs.State.{State, in_phase, status_of}
 use Rattle.session_poll.specs.Steps.{RefusesStart}
 use Rattle.session_poll.proofs.CourseLaws.{log_kept}
 use Rattle.session_poll.proofs.FixedLaws.{out_of_memory_is}
@@ -20,9 +20,9 @@ use Rattle.session_poll.proofs.QueryLaws.{takes_as}
 transaction_same : (old new : Session) (state : State) → state_of new ≡ state → state.transaction ≡ old.transaction → new.transaction ≡ old.transaction
 transaction_same old new state s t = ap (λ (x : State). x.transaction) s ∙ t
 
-pub welcomed : (opening : Opening) (old new : Session) → waiting_of new ≡ waiting_of old ++ spelled (welcome opening) → state_of new ≡ in_phase phases.Ready (state_of old) → Keeps old new → Takes (Welcomes opening) old new
+pub welcomed : (opening : Opening) (old new : Session) → waiting_of new ≡ waiting_of old ++ spelled (welcome opening (status_of old.transaction)) → state_of new ≡ in_phase phases.Ready (state_of old) → Keeps old new → Takes (Welcomes opening) old new
 welcomed opening old new put state keeps = record {
-  course = goes [] (welcome opening) (in_phase phases.Ready (state_of old));
+  course = goes [] (welcome opening (status_of old.transaction)) (in_phase phases.Ready (state_of old));
   rule_is = inl refl;
   state = state;
   put = put;
@@ -30,12 +30,12 @@ welcomed opening old new put state keeps = record {
   fits = log_kept old new (goes [] [] (state_of old)) (transaction_same old new (in_phase phases.Ready (state_of old)) state refl) refl;
 }
 
-out_put : (old mid new : List ℕ) → mid ≡ old → new ≡ mid ++ OUT_OF_MEMORY.now → new ≡ old ++ spelled (error_of refusal.OutOfMemory ∷ [])
+out_put : (old mid new : List ℕ) → mid ≡ old → new ≡ mid ++ OUT_OF_MEMORY.now → new ≡ old ++ spelled (out_of_memory ∷ [])
 out_put old mid new m n = n ∙ ap (λ (b : List ℕ). b ++ OUT_OF_MEMORY.now) m ∙ ap (λ (b : List ℕ). old ++ b) out_of_memory_is
 
 pub refused : (old mid new : Session) → waiting_of mid ≡ waiting_of old → waiting_of new ≡ waiting_of mid ++ OUT_OF_MEMORY.now → KeepsState old new → Takes RefusesStart old new
 refused old mid new m n keeps = record {
-  course = goes [] (error_of refusal.OutOfMemory ∷ []) (state_of old);
+  course = goes [] (out_of_memory ∷ []) (state_of old);
   rule_is = refl;
   state = keeps.state;
   put = out_put (waiting_of old) (waiting_of mid) (waiting_of new) m n;

@@ -79,9 +79,9 @@ puts_all opening number table complete old mid new puts put = record {
       (ap back_bytes puts.follows ∙ sym (append-nil (back_bytes (select_complete puts.answer)))) puts.put put;
 }
 
-stopped : (part : State → Course → Type 0) (old new : Session) (why : _) → part (state_of old) (stops why (state_of old)) → waiting_of new ≡ waiting_of old → KeepsState old new → new.output.is_ready ≡ true → Done part old (Some why) new
+stopped : (part : State → Course → Type 0) (old new : Session) (why : _) → part (state_of old) (stops [] why (state_of old)) → waiting_of new ≡ waiting_of old → KeepsState old new → new.output.is_ready ≡ true → Done part old (Some why) new
 stopped part old new why is put keeps room = record {
-  course = stops why (state_of old);
+  course = stops [] why (state_of old);
   part_is = is;
   refused_is = refl;
   state = keeps.state;
@@ -111,7 +111,7 @@ answers_shown opening name left number refused old new is d = record {
 pub answers_none : (opening : Opening) (name : List ℕ) (left : List Statement) (old : Session) → number_of opening name ≡ None → old.output.is_ready ≡ true → Done (AnswersTable opening name left) old (Some (refusal.UnknownTable name)) old
 answers_none opening name left old is room =
     stopped (AnswersTable opening name left) old old (refusal.UnknownTable name)
-    (subst (λ n. Finds opening name n left (state_of old) (stops (refusal.UnknownTable name) (state_of old))) (sym is) refl)
+    (subst (λ n. Finds opening name n left (state_of old) (stops [] (refusal.UnknownTable name) (state_of old))) (sym is) refl)
     refl (record { state = refl; input = record { held = refl; over = refl } }) room
 
 -- a place that was found has an item

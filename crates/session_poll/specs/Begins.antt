@@ -13,7 +13,7 @@ pub record BeginsNew (old : State) (c : Course) : Type 0 where
   pub course : c ≡ goes (Begun snapshot ∷ []) (snapshot_told snapshot ∷ []) (in_transaction (transactions.Implicit snapshot) old)
 
 abbrev pub BeginsIn : Transaction → State → Course → Type 0
-BeginsIn transactions.Idle old c = BeginsNew old c ⊎ (c ≡ stops refusal.OutOfMemory old)
+BeginsIn transactions.Idle old c = BeginsNew old c ⊎ (c ≡ stops [] refusal.OutOfMemory old)
 BeginsIn (transactions.Implicit snapshot) old c = c ≡ goes [] [] old
 
 abbrev pub Begins : State → Course → Type 0

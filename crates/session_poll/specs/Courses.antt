@@ -30,8 +30,8 @@ pub record Course : Type 0 where
 abbrev pub goes : List Event → List Back → State → Course
 goes events replies after = record { events = events; replies = replies; refused = None; after = after }
 
-abbrev pub stops : Refusal → State → Course
-stops why after = record { events = []; replies = []; refused = Some why; after = after }
+abbrev pub stops : List Event → Refusal → State → Course
+stops events why after = record { events = events; replies = []; refused = Some why; after = after }
 
 abbrev pub both : Course → Course → Course
 both one two = record { events = one.events ++ two.events; replies = one.replies ++ two.replies; refused = two.refused; after = two.after }

@@ -3,19 +3,18 @@ use Rattle.std.specs.Prelude.{◌≡◌, ℕ, ◌≤◌, Bool, true, false, List
 use Rattle.pg_messages.specs.declared.back.Back.{Back}
 use Rattle.session_poll.specs.declared.opening.Opening.{Opening}
 use Rattle.session_poll.specs.declared.refusal.Refusal.{Refusal}
-use Rattle.session_poll.specs.declared.refusal.Refusal.TheVariants as refusal
 use Rattle.session_poll.specs.declared.session.Session.{Session}
 use Rattle.session_poll.specs.declared.state.Phase.TheVariants as phases
 use Rattle.session_poll.specs.Answers.{IsAnswer}
 use Rattle.session_poll.specs.AnswerMessages.{answer_messages, select_complete}
 use Rattle.session_poll.specs.Courses.{Course}
 use Rattle.session_poll.specs.Packets.{IsStartupMessage, IsQuery, IsReadAs}
-use Rattle.session_poll.specs.Queries.{Tells}
-use Rattle.session_poll.specs.Replies.{spelled, error_of, ready_for_query}
+use Rattle.session_poll.specs.Errors.{Tells}
+use Rattle.session_poll.specs.Replies.{spelled, out_of_memory, ready_for_query}
 use Rattle.session_poll.specs.Runs.{AllFit, Did, HasSnapshot}
 use Rattle.session_poll.specs.Session.{state_of, held_of, waiting_of, is_over}
 use Rattle.session_poll.specs.Standing.{works, IsFull}
-use Rattle.session_poll.specs.State.{State, in_phase, ready, ended}
+use Rattle.session_poll.specs.State.{State, in_phase, between, ended}
 use Rattle.session_poll.specs.Steps.{Step}
 use Rattle.vschema.specs.declared.catalog.Table.{Table}
 use Rattle.vtable.specs.declared.table.VTable.{VTable}
@@ -63,6 +62,10 @@ pub record IsTaken (old new : Session) : Type 0 where
   pub output : new.output ≡ old.output
   pub input : Keeps old new
 
+-- no transaction is open, and a message may come
+abbrev pub ready : State → State
+ready state = in_phase phases.Ready (between state)
+
 -- the state changes and nothing else
 pub record IsReady (old new : Session) : Type 0 where
   pub state : state_of new ≡ ready (state_of old)
@@ -102,7 +105,7 @@ pub record Takes (rule : State → Course → Type 0) (old new : Session) : Type
 pub record Told (why : Refusal) (old new : Session) : Type 0 where
   pub message : Back
   pub told : Tells why message
-  pub put : waiting_of new ≡ waiting_of old ++ spelled (message ∷ ready_for_query ∷ [])
+  pub put : waiting_of new ≡ waiting_of old ++ spelled (message ∷ ready_for_query (ready (state_of old)) ∷ [])
   pub keeps : KeepsState old new
 
 -- the state after it too
@@ -110,12 +113,12 @@ pub record Failed (why : Refusal) (old new : Session) : Type 0 where
   pub message : Back
   pub told : Tells why message
   pub state : state_of new ≡ ready (state_of old)
-  pub put : waiting_of new ≡ waiting_of old ++ spelled (message ∷ ready_for_query ∷ [])
+  pub put : waiting_of new ≡ waiting_of old ++ spelled (message ∷ ready_for_query (ready (state_of old)) ∷ [])
   pub keeps : Keeps old new
 
 -- the end of a Query was told, or want of memory
 pub record ToldEnd (complete : Back) (old new : Session) : Type 0 where
-  pub put : (waiting_of new ≡ waiting_of old ++ spelled (complete ∷ ready_for_query ∷ [])) ⊎ (waiting_of new ≡ waiting_of old ++ spelled (error_of refusal.OutOfMemory ∷ ready_for_query ∷ []))
+  pub put : (waiting_of new ≡ waiting_of old ++ spelled (complete ∷ ready_for_query (ready (state_of old)) ∷ [])) ⊎ (waiting_of new ≡ waiting_of old ++ spelled (out_of_memory ∷ ready_for_query (ready (state_of old)) ∷ []))
   pub keeps : KeepsState old new
 
 -- no room was there for a reply of fixed bytes, no memory was found for it, and nothing was done

@@ -1,5 +1,5 @@
 -- The query rule.
-use Rattle.std.specs.Prelude.{◌≡◌, ℕ, Bool, true, false, List, [], ◌∷◌, ◌++◌, Option, Some, None, Result, Ok, Err, ◌⊎◌}
+use Rattle.std.specs.Prelude.{◌≡◌, ℕ, false, List, [], ◌∷◌, ◌++◌, Option, Some, None, Result, Ok, Err, ◌⊎◌}
 use Rattle.std.specs.Str.{IsUtf8}
 use Rattle.pg_messages.specs.declared.back.Back.{Back}
 use Rattle.query_parser.specs.Texts.{IsText, IsRefusedText}
@@ -8,9 +8,10 @@ use Rattle.session_poll.specs.declared.refusal.Refusal.{Refusal}
 use Rattle.session_poll.specs.declared.refusal.Refusal.TheVariants as refusal
 use Rattle.session_poll.specs.Begins.{Begins}
 use Rattle.session_poll.specs.Courses.{Course, Then, goes}
-use Rattle.session_poll.specs.Replies.{error_of, empty_query, ready_for_query}
-use Rattle.session_poll.specs.StartUps.{Rejects}
-use Rattle.session_poll.specs.State.{State, ready}
+use Rattle.session_poll.specs.Errors.{Fails, Rejects, Runs, failed}
+use Rattle.session_poll.specs.Replies.{empty_query, out_of_memory, ready_for_query}
+use Rattle.session_poll.specs.State.{State, between, in_phase}
+use Rattle.session_poll.specs.declared.state.Phase.TheVariants as phases
 use Rattle.session_poll.specs.Tables.{bare_table, AnswersTable}
 use Rattle.vra_syntax.specs.declared.statement.Statement.{Statement}
 
@@ -22,33 +23,6 @@ IsTextRead features text (Err refusal.NotUtf8) = IsUtf8 text → ⊥
 IsTextRead features text (Err (refusal.Unparsed why)) = IsUtf8 text × IsRefusedText features false text why
 IsTextRead features text (Err why) = ⊥
 
--- whether the error of a refusal is a reply of fixed bytes, which takes no memory
-abbrev pub is_fixed : Refusal → Bool
-is_fixed refusal.NotUtf8 = true
-is_fixed refusal.OutOfMemory = true
-is_fixed _ = false
-
--- the error of a refusal; where it takes memory, that of want of memory may be told in its place
-abbrev pub Tells : Refusal → Back → Type 0
-Tells why message = (message ≡ error_of why) ⊎ ((is_fixed why ≡ false) × (message ≡ error_of refusal.OutOfMemory))
-
--- The error rule in a Query: the error is told, the transaction is dropped, and the Query ends. The statements that are
--- left aren't run.
-pub record Fails (why : Refusal) (one c : Course) : Type 0 where
-  pub message : Back
-  pub told : Tells why message
-  pub course : c ≡ goes one.events (one.replies ++ message ∷ ready_for_query ∷ []) (ready one.after)
-
-abbrev pub Closes : Option Refusal → Course → Course → Type 0
-Closes None one c = c ≡ one
-Closes (Some why) one c = Fails why one c
-
--- the part that a Query runs, and its end where that was refused
-pub record Runs (part : State → Course → Type 0) (old : State) (c : Course) : Type 0 where
-  pub one : Course
-  pub part_is : part old one
-  pub closes : Closes one.refused one c
-
 -- A table is answered in a transaction. Another statement isn't built yet, and no transaction begins for it.
 abbrev pub RunsAs : Opening → Option (List ℕ) → List Statement → State → Course → Type 0
 RunsAs opening None left old c = Rejects old c
@@ -58,29 +32,29 @@ RunsAs opening (Some name) left old c = Runs (Then Begins (AnswersTable opening 
 abbrev pub RunsStatement : Opening → Statement → List Statement → State → Course → Type 0
 RunsStatement opening first left old c = RunsAs opening (bare_table first) left old c
 
--- a text without a statement is said to be empty
-abbrev pub SaysEmpty : State → Course → Type 0
-SaysEmpty old c = c ≡ goes [] (empty_query ∷ ready_for_query ∷ []) (ready old)
+-- these replies, that no transaction is open, and that a message may come
+abbrev pub Readies : List Back → State → Course → Type 0
+Readies last old c = let after = in_phase phases.Ready (between old) in c ≡ goes [] (last ++ ready_for_query after ∷ []) after
 
--- the first statement is run, and the others are left
-abbrev pub RunsAll : Opening → List Statement → State → Course → Type 0
-RunsAll opening [] old c = SaysEmpty old c
-RunsAll opening (first ∷ left) old c = RunsStatement opening first left old c
+-- A text without a statement is said to be empty, in the same step. Otherwise the statements are left to be run.
+abbrev pub AnswersStatements : List Statement → State → Course → Type 0
+AnswersStatements [] old c = Readies (empty_query ∷ []) old c
+AnswersStatements (first ∷ left) old c = c ≡ goes [] [] (in_phase (phases.Statements first left) old)
 
 -- a text that isn't read is refused before anything is run
-abbrev pub AnswersText : Opening → Result (List Statement) Refusal → State → Course → Type 0
-AnswersText opening (Ok statements) old c = RunsAll opening statements old c
-AnswersText opening (Err why) old c = Fails why (goes [] [] old) c
+abbrev pub AnswersText : Result (List Statement) Refusal → State → Course → Type 0
+AnswersText (Ok statements) old c = AnswersStatements statements old c
+AnswersText (Err why) old c = Fails why (goes [] [] old) c
 
-pub record Queries (opening : Opening) (text : List ℕ) (old : State) (c : Course) : Type 0 where
+pub record Queries (features : List (List ℕ)) (text : List ℕ) (old : State) (c : Course) : Type 0 where
   pub read : Result (List Statement) Refusal
-  pub is_read : IsTextRead opening.catalog.features text read
-  pub course : AnswersText opening read old c
+  pub is_read : IsTextRead features text read
+  pub course : AnswersText read old c
 
 -- want of memory stands for the whole message
 abbrev pub RunsOut : State → Course → Type 0
-RunsOut old c = c ≡ goes [] (error_of refusal.OutOfMemory ∷ ready_for_query ∷ []) (ready old)
+RunsOut old c = c ≡ failed (goes [] [] old) out_of_memory
 
 -- The end of a Query whose last statement was answered: its transaction ends, and its tag is sent.
 abbrev pub EndsQuery : Back → State → Course → Type 0
-EndsQuery complete old c = (c ≡ goes [] (complete ∷ ready_for_query ∷ []) (ready old)) ⊎ RunsOut old c
+EndsQuery complete old c = Readies (complete ∷ []) old c ⊎ RunsOut old c

@@ -5,9 +5,9 @@ use Rattle.pg_messages.specs.BackSpelling.{back_bytes}
 use Rattle.pg_messages.specs.declared.back.Back.{Back}
 use Rattle.pg_messages.specs.declared.back.Back.TheVariants as back
 use Rattle.pg_messages.specs.declared.back.ErrorField.{ErrorField}
-use Rattle.pg_messages.specs.declared.back.Status.TheVariants as status
 use Rattle.query_parser.specs.declared.refused.ParseRefused.{ParseRefused}
 use Rattle.query_parser.specs.declared.refused.ParseRefused.TheVariants as refused
+use Rattle.session_poll.specs.State.{State, status_of}
 use Rattle.session_poll.specs.declared.refusal.Refusal.{Refusal}
 use Rattle.session_poll.specs.declared.refusal.Refusal.TheVariants as refusal
 
@@ -15,9 +15,9 @@ use Rattle.session_poll.specs.declared.refusal.Refusal.TheVariants as refusal
 abbrev pub spelled : List Back → List ℕ
 spelled messages = flat_map back_bytes messages
 
--- no transaction is open
-abbrev pub ready_for_query : Back
-ready_for_query = back.ReadyForQuery status.Idle
+-- where the transaction stands
+abbrev pub ready_for_query : State → Back
+ready_for_query state = back.ReadyForQuery (status_of state.transaction)
 
 -- a text has no statement
 abbrev pub empty_query : Back

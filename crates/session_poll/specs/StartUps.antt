@@ -5,15 +5,16 @@ use Rattle.std.specs.List.{flat_map, list_any, starts_with}
 use Rattle.feature_expr.specs.Printing.{name_of, text_of}
 use Rattle.pg_messages.specs.declared.back.Back.{Back}
 use Rattle.pg_messages.specs.declared.back.Back.TheVariants as back
+use Rattle.pg_messages.specs.declared.back.Status.{Status}
 use Rattle.pg_messages.specs.declared.startup.Pair.{Pair}
 use Rattle.pg_messages.specs.declared.startup.Startup.{Startup}
 use Rattle.pg_messages.specs.declared.startup.Startup.TheVariants as startup
 use Rattle.session_poll.specs.declared.opening.Opening.{Opening}
-use Rattle.session_poll.specs.declared.refusal.Refusal.TheVariants as refusal
 use Rattle.session_poll.specs.declared.state.Phase.TheVariants as phases
 use Rattle.session_poll.specs.Courses.{Course, goes}
-use Rattle.session_poll.specs.Replies.{error_of, ready_for_query}
-use Rattle.session_poll.specs.State.{State, in_phase, ended}
+use Rattle.session_poll.specs.Errors.{Rejects}
+use Rattle.session_poll.specs.Replies.{out_of_memory}
+use Rattle.session_poll.specs.State.{State, in_phase, status_of}
 
 abbrev pub later_or : Option (List ℕ) → Option (List ℕ) → Option (List ℕ)
 later_or (Some later) earlier = Some later
@@ -65,21 +66,17 @@ fixed_parameters =
 
 -- what a client is told at the start: the parameters, among them the catalogue's features and model, and the key of the
 -- session
-abbrev pub welcome : Opening → List Back
-welcome opening =
+abbrev pub welcome : Opening → Status → List Back
+welcome opening status =
     fixed_parameters ++
     back.ParameterStatus (codes "vdb_features") (with_commas opening.catalog.features) ∷
     back.ParameterStatus (codes "vdb_model") (text_of opening.catalog.features opening.catalog.model) ∷
     back.BackendKeyData 1 0 ∷
-    ready_for_query ∷ []
+    back.ReadyForQuery status ∷ []
 
 abbrev pub Welcomes : Opening → State → Course → Type 0
 Welcomes opening old c =
-    (c ≡ goes [] (welcome opening) (in_phase phases.Ready old)) ⊎ (c ≡ goes [] (error_of refusal.OutOfMemory ∷ []) old)
-
--- what isn't built yet ends the session
-abbrev pub Rejects : State → Course → Type 0
-Rejects old c = c ≡ goes [] (error_of refusal.NotBuilt ∷ []) (ended old)
+    (c ≡ goes [] (welcome opening (status_of old.transaction)) (in_phase phases.Ready old)) ⊎ (c ≡ goes [] (out_of_memory ∷ []) old)
 
 abbrev pub StartsUp : Opening → Startup → State → Course → Type 0
 StartsUp opening packet old c = MatchBool (is_taken packet) (Welcomes opening old c) (Rejects old c)

@@ -3,23 +3,23 @@ use Rattle.std.specs.Prelude.{◌≡◌, [], ◌∷◌}
 use Rattle.pg_messages.specs.declared.front.Front.{Front}
 use Rattle.pg_messages.specs.declared.front.Front.TheVariants as front
 use Rattle.session_poll.specs.declared.opening.Opening.{Opening}
-use Rattle.session_poll.specs.declared.refusal.Refusal.TheVariants as refusal
 use Rattle.session_poll.specs.declared.state.Phase.{Phase}
 use Rattle.session_poll.specs.declared.state.Phase.TheVariants as phases
 use Rattle.session_poll.specs.Courses.{Course, Input, StartUp, Message, Bad, Unread, Next, goes}
 use Rattle.session_poll.specs.Queries.{Queries, RunsStatement, EndsQuery, RunsOut}
-use Rattle.session_poll.specs.Replies.{error_of}
-use Rattle.session_poll.specs.StartUps.{StartsUp, Rejects}
+use Rattle.session_poll.specs.Errors.{Rejects}
+use Rattle.session_poll.specs.Replies.{out_of_memory}
+use Rattle.session_poll.specs.StartUps.{StartsUp}
 use Rattle.session_poll.specs.State.{State, in_phase, ended}
 
 -- which rule a message has
 abbrev pub Handles : Opening → Front → State → Course → Type 0
-Handles opening (front.Query text) old c = Queries opening text old c
+Handles opening (front.Query text) old c = Queries opening.catalog.features text old c
 Handles opening front.Terminate old c = c ≡ goes [] [] (ended old)
 
 -- a start-up packet was taken unread
 abbrev pub RefusesStart : State → Course → Type 0
-RefusesStart old c = c ≡ goes [] (error_of refusal.OutOfMemory ∷ []) old
+RefusesStart old c = c ≡ goes [] (out_of_memory ∷ []) old
 
 -- A packet that is taken unread is answered `out of memory`. What isn't built yet is refused, and ends the session. The
 -- next statement of a Query leaves its phase to be run. Nothing else comes.

@@ -53,10 +53,10 @@ pub record Found (opening : Opening) (number : ℕ) (left : List Statement) (old
 
 -- the table with this number is answered, or memory ran out
 abbrev pub ShowsTable : Opening → ℕ → List Statement → State → Course → Type 0
-ShowsTable opening number left old c = Found opening number left old c ⊎ (c ≡ stops refusal.OutOfMemory old)
+ShowsTable opening number left old c = Found opening number left old c ⊎ (c ≡ stops [] refusal.OutOfMemory old)
 
 abbrev pub Finds : Opening → List ℕ → Option ℕ → List Statement → State → Course → Type 0
-Finds opening name None left old c = c ≡ stops (refusal.UnknownTable name) old
+Finds opening name None left old c = c ≡ stops [] (refusal.UnknownTable name) old
 Finds opening name (Some number) left old c = ShowsTable opening number left old c
 
 -- the table with this name is answered, or there is none; behind it these statements are left

@@ -63,12 +63,12 @@ fn put_rows(
     ensures ready { output.new.is_ready ≡ true }
 {
     'rows: for row in rows {
-        put_row(alloc, row, features, output)?;
+        put_data_row(alloc, row, features, output)?;
     }
     Ok(())
 }
 
-fn put_row(
+fn put_data_row(
     alloc: Global,
     row: &VRow,
     features: &Features,

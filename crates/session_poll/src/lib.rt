@@ -3,21 +3,16 @@
 
 mod answer;
 mod begin;
-mod fixed;
 mod inbox;
-mod left;
 mod opening;
 mod output;
 mod poll;
 mod polled;
 mod queries;
-mod query;
 mod refusal;
 mod replies;
 mod scan;
 mod session;
-mod standing;
-mod start;
 mod start_up;
 mod state;
 mod tables;

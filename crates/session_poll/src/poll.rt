@@ -130,7 +130,7 @@ impl Session {
         ensures { Takes (Handles opening.now message.now) self.old self.new }
     {
         match message {
-            Front::Query(text) => self.query(text, opening),
+            Front::Query(text) => self.query(text, &opening.catalog.features),
             Front::Terminate => self.end(),
         }
     }

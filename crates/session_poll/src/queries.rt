@@ -1,56 +1,55 @@
 //! The query rule.
 
-ghost use Rattle.std.specs.Prelude.{◌≡◌, ◌++◌, [], ◌∷◌, true, false, None, List as Items, OnOk, OnErr};
+ghost use Rattle.std.specs.Prelude.{◌≡◌, ◌++◌, [], ◌∷◌, true, false, None, List as Items, OnOk, OnErr, MatchOption};
 ghost use Rattle.pg_messages.specs.declared.back.Back.{Back};
 ghost use Rattle.session_poll.specs.Begins.{Begins};
 ghost use Rattle.session_poll.specs.Courses.{Then};
+ghost use Rattle.session_poll.specs.Errors.{is_fixed, Rejects, Runs};
 ghost use Rattle.session_poll.specs.Parts.{Done, Takes, Told, ToldEnd, Failed, KeepsState, IsReady, IsEnded, IsTaken};
-ghost use Rattle.session_poll.specs.Queries.{is_fixed, Queries, RunsAll, RunsStatement, Runs, RunsOut, SaysEmpty, EndsQuery};
-ghost use Rattle.session_poll.specs.Replies.{spelled, error_of};
+ghost use Rattle.session_poll.specs.Queries.{AnswersStatements, Queries, Readies, RunsStatement, RunsOut, EndsQuery, IsTextRead};
+ghost use Rattle.session_poll.specs.Replies.{spelled, error_of, empty_query};
 ghost use Rattle.session_poll.specs.Servable.{IsServable};
-ghost use Rattle.session_poll.specs.StartUps.{Rejects};
 ghost use Rattle.session_poll.specs.State.{in_phase};
 ghost use Rattle.session_poll.specs.declared.state.Phase.TheVariants as phases;
-ghost use Rattle.session_poll.specs.Tables.{AnswersTable};
+ghost use Rattle.session_poll.specs.Tables.{AnswersTable, bare_table};
 
-use crate::fixed::{
-    EMPTY_AND_READY, NOT_BUILT, NOT_UTF8_AND_READY, OUT_OF_MEMORY_AND_READY, READY,
-};
-use crate::left::Left;
 use crate::opening::Opening;
-use crate::query::{bare_table, read};
 use crate::refusal::Refusal;
-use crate::replies::error;
+use crate::replies::{
+    EMPTY_AND_READY, NOT_BUILT, NOT_UTF8_AND_READY, OUT_OF_MEMORY_AND_READY, READY, error,
+};
 use crate::session::Session;
 use crate::state::{Phase, Transaction};
-use feature_expr::{List, Memory, Name, Text};
-use std::mem;
+use feature_expr::{Features, List, Memory, Name, Text};
+use query_parser::parse;
+use std::alloc::Global;
+use std::collections::VecDeque;
+use std::marker::Model;
+use std::{mem, str};
 use vra_syntax::Statement;
 
 impl Session {
-    /// Reads the text of a Query, and runs its first statement.
+    /// Reads the text of a Query, whose statements are left to be run.
     #[tactic(auto, using(crate::proofs::QueryLaws::query_read, crate::proofs::QueryLaws::query_refused))]
-    pub(crate) fn query(&mut self, text: &Text, opening: &Opening)
-        requires ready { self.old.output.is_ready ≡ true }
-        requires servable { IsServable opening.now }
-        ensures { Takes (Queries opening.now text.now) self.old self.new }
+    pub(crate) fn query(&mut self, text: &Text, features: &Features)
+        requires { self.old.output.is_ready ≡ true }
+        ensures { Takes (Queries features.now text.now) self.old self.new }
     {
-        match read(self.alloc, text.as_slice(), &opening.catalog.features) {
-            Ok(statements) => self.run_all(statements, opening),
+        match read(self.alloc, text.as_slice(), features) {
+            Ok(statements) => self.leave(statements),
             Err(why) => self.fail(&why),
         }
     }
 
-    /// Runs the first of these statements, and keeps the others. Where there is none, that is told.
-    #[tactic(auto, using(crate::proofs::QueryLaws::runs_first, crate::proofs::QueryLaws::runs_none))]
-    fn run_all(&mut self, statements: List<Statement>, opening: &Opening)
-        requires ready { self.old.output.is_ready ≡ true }
-        requires servable { IsServable opening.now }
-        ensures { Takes (RunsAll opening.now statements) self.old self.new }
+    /// Leaves these statements to be run. Where there is none, that is told.
+    #[tactic(auto, using(crate::proofs::QueryLaws::leaves, crate::proofs::QueryLaws::leaves_none))]
+    fn leave(&mut self, statements: List<Statement>)
+        requires { self.old.output.is_ready ≡ true }
+        ensures { Takes (AnswersStatements statements) self.old self.new }
     {
         let mut left = Left::new(statements);
         match left.next() {
-            Some(first) => self.run_statement(first, left, opening),
+            Some(first) => self.phase = Phase::Statements(first, left),
             None => self.say_empty(),
         }
     }
@@ -114,7 +113,7 @@ impl Session {
     #[tactic(auto, using(crate::proofs::QueryLaws::said_empty))]
     fn say_empty(&mut self)
         requires { self.old.output.is_ready ≡ true }
-        ensures { Takes SaysEmpty self.old self.new }
+        ensures { Takes (Readies (empty_query ∷ [])) self.old self.new }
     {
         self.output.put_fixed(EMPTY_AND_READY);
         self.be_ready();
@@ -233,5 +232,65 @@ impl Session {
     {
         self.phase = Phase::Ended;
         self.transaction = Transaction::Idle;
+    }
+}
+
+/// The statements of a Query that are still to be run, in their order.
+#[derive(Drop)]
+pub struct Left {
+    statements: VecDeque<Statement>,
+}
+
+impl Model for Left {
+    ghost use Rattle.std.specs.Prelude.{List as Items};
+    ghost use Rattle.std.specs.Coded.{codes, coded_list};
+    ghost use Rattle.vra_syntax.specs.contracts.statement.Statement as s;
+    ghost use Rattle.vra_syntax.specs.declared.statement.Statement.{Statement};
+
+    ghost Value = { Items Statement };
+
+    ghost coded = { coded_list (Prim.hlevel (codes, s.the_row.coded)) };
+
+    ghost view = { λ it. it.statements.items };
+}
+
+impl Left {
+    /// It takes no memory.
+    pub fn new(statements: List<Statement>) -> Left
+        ensures { result ≡ statements }
+    {
+        Left {
+            statements: VecDeque::from_vec(statements.into_vec()),
+        }
+    }
+
+    /// Takes the first one off.
+    pub fn next(&mut self) -> Option<Statement>
+        ensures { MatchOption result ((self.old ≡ []) × (self.new ≡ [])) (λ first. self.old ≡ first ∷ self.new) }
+    {
+        self.statements.pop_front()
+    }
+}
+
+/// The statements of a text, in which no parameter may stand.
+pub fn read(alloc: Global, text: &[u8], features: &Features) -> Result<List<Statement>, Refusal>
+    ensures { IsTextRead features.now text.now result }
+{
+    let Ok(text) = str::from_utf8(text) else {
+        return Err(Refusal::NotUtf8);
+    };
+    match parse(alloc, text, features, false) {
+        Ok(statements) => Ok(statements),
+        Err(why) => Err(Refusal::Unparsed(why)),
+    }
+}
+
+/// The name, where a statement's tree is that of a table's name alone.
+pub fn bare_table(statement: Statement) -> Option<Name>
+    ensures { result ≡ bare_table statement }
+{
+    match statement {
+        Statement::Query(query) => query.into_table(),
+        _ => None,
     }
 }

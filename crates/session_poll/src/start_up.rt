@@ -1,15 +1,68 @@
 //! The start-up rule: which start-up message is taken, and what it is answered.
 
-ghost use Rattle.std.specs.Prelude.{◌≡◌, ◌++◌, [], ◌∷◌, map, drop, take, codes, length, Option, Some, None, not, ◌&&◌, ◌==◌, ◌<◌, if◌then◌else◌, OnOk, IfOk, IfSome, IfNone};
+ghost use Rattle.std.specs.Prelude.{◌≡◌, ◌++◌, [], ◌∷◌, map, drop, take, codes, length, Option, Some, None, not, ◌&&◌, ◌==◌, ◌<◌, if◌then◌else◌, OnOk, IfOk, IfSome, IfNone, true, OnErr};
 ghost use Rattle.std.specs.List.{list_any, flat_map};
 ghost use Rattle.std.specs.Option.{option_map};
-ghost use Rattle.session_poll.specs.StartUps.{is_taken, is_refused_name, is_not_empty, value_of, value_in, later_or, with_commas, piece, fixed_parameters, welcome};
+ghost use Rattle.session_poll.specs.StartUps.{is_taken, is_refused_name, is_not_empty, value_of, value_in, later_or, with_commas, piece, fixed_parameters, welcome, StartsUp, Welcomes};
+ghost use Rattle.session_poll.specs.Parts.{Takes, KeepsState};
+ghost use Rattle.session_poll.specs.Replies.{spelled};
+ghost use Rattle.session_poll.specs.State.{status_of};
+ghost use Rattle.session_poll.specs.StartUps as rule;
+ghost use Rattle.session_poll.specs.Steps.{RefusesStart};
 
 use crate::opening::Opening;
-use crate::replies::parameter;
+use crate::replies::{OUT_OF_MEMORY, parameter};
+use crate::session::Session;
+use crate::state::Phase;
 use feature_expr::{Features, List, Memory, print_expr};
 use pg_messages::{Back, Pair, Startup, Status};
 use std::alloc::Global;
+
+impl Session {
+    /// Answers a start-up packet.
+    #[tactic(auto, using(crate::proofs::StartLaws::starts_up, crate::proofs::StartLaws::starts_not))]
+    pub(crate) fn start_up(&mut self, packet: &Startup, opening: &Opening)
+        requires { self.old.output.is_ready ≡ true }
+        ensures { Takes (StartsUp opening.now packet.now) self.old self.new }
+    {
+        if is_taken(packet) {
+            self.welcome(opening);
+        } else {
+            self.reject();
+        }
+    }
+
+    #[tactic(auto, using(crate::proofs::StartLaws::welcomed, crate::proofs::StartLaws::not_welcomed))]
+    fn welcome(&mut self, opening: &Opening)
+        requires { self.old.output.is_ready ≡ true }
+        ensures { Takes (Welcomes opening.now) self.old self.new }
+    {
+        match self.put_welcome(opening) {
+            Ok(()) => self.phase = Phase::Ready,
+            Err(Memory) => self.output.put_fixed(OUT_OF_MEMORY),
+        }
+    }
+
+    fn put_welcome(&mut self, opening: &Opening) -> Result<(), Memory>
+        requires { self.old.output.is_ready ≡ true }
+        ensures ok { OnOk result (self.new.output.bytes ≡ self.old.output.bytes ++ spelled (rule.welcome opening.now (status_of self.old.transaction))) }
+        ensures err { OnErr result (self.new.output.bytes ≡ self.old.output.bytes) }
+        ensures ready { self.new.output.is_ready ≡ true }
+        ensures state { KeepsState self.old self.new }
+    {
+        let messages = welcome(self.alloc, opening, self.transaction.status())?;
+        self.output.put_all(messages.as_slice())
+    }
+
+    /// Want of memory stands for a start-up packet that wasn't read, and the session still waits for one.
+    #[tactic(auto, using(crate::proofs::StartLaws::refused))]
+    pub(crate) fn refuse_start(&mut self)
+        requires { self.old.output.is_ready ≡ true }
+        ensures { Takes RefusesStart self.old self.new }
+    {
+        self.output.put_fixed(OUT_OF_MEMORY);
+    }
+}
 
 /// Whether a start-up packet is taken: it names a user, and neither an option of a later protocol nor replication.
 pub fn is_taken(startup: &Startup) -> bool
@@ -61,8 +114,8 @@ fn last_value<'a>(name: &[u8], pairs: &'a [Pair]) -> Option<&'a [u8]>
 }
 
 /// The reply to a start-up message that is taken.
-pub fn welcome(alloc: Global, opening: &Opening) -> Result<List<Back>, Memory>
-    ensures { IfOk result (λ it. it ≡ welcome opening.now) }
+pub fn welcome(alloc: Global, opening: &Opening, status: Status) -> Result<List<Back>, Memory>
+    ensures { IfOk result (λ it. it ≡ welcome opening.now status) }
 {
     let mut messages = fixed_parameters(alloc)?;
     let features = &opening.catalog.features;
@@ -71,7 +124,7 @@ pub fn welcome(alloc: Global, opening: &Opening) -> Result<List<Back>, Memory>
     let model = print_expr(alloc, &opening.catalog.model, features)?;
     messages.push(parameter(alloc, b"vdb_model", model.as_slice())?)?;
     messages.push(Back::BackendKeyData(1, 0))?;
-    messages.push(Back::ReadyForQuery(Status::Idle))?;
+    messages.push(Back::ReadyForQuery(status))?;
     Ok(List::from_vec(messages))
 }
 

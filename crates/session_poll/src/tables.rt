@@ -7,8 +7,8 @@ ghost use Rattle.session_poll.specs.Servable.{IsServable};
 ghost use Rattle.session_poll.specs.Tables.{AnswersTable, ShowsTable};
 
 use crate::answer::{put_answer, select_complete};
-use crate::left::Left;
 use crate::opening::Opening;
+use crate::queries::Left;
 use crate::refusal::Refusal;
 use crate::scan::scan;
 use crate::session::Session;

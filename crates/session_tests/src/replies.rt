@@ -84,11 +84,14 @@ fn a_poll_says_how_the_session_stands(rt: HostRuntime) -> Result<(), Fail> {
     assert_eq!(rt; session.feed(back), back.len());
     let polls = [
         Polled::Again, // the start-up
-        Polled::Again, // the first table
-        Polled::Again, // the end of its Query
-        Polled::Again, // the second table
-        Polled::Again, // the end of its Query
-        Polled::Again, // the table that isn't there
+        Polled::Again, // the first Query
+        Polled::Again, // its table
+        Polled::Again, // its end
+        Polled::Again, // the second Query
+        Polled::Again, // its table
+        Polled::Again, // its end
+        Polled::Again, // the third Query
+        Polled::Again, // its table, which isn't there
         Polled::NeedOutput, // the Terminate
     ];
     for polled in polls {
