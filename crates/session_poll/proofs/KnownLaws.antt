@@ -11,7 +11,7 @@ use Rattle.feature_expr.specs.Expressions.{and_left, and_right, mentions, mentio
 use Rattle.feature_expr.specs.Printing.{HasNames}
 use Rattle.feature_expr.proofs.PrintedLaws.{mentions_And}
 use Rattle.session_poll.specs.Answers.{columns_mention, answer_mentions}
-use Rattle.session_poll.specs.Scans.{is_of, scanned_column, scanned_row, scanned_rows}
+use Rattle.session_poll.specs.Scans.{is_of, scanned_column, scanned_rows}
 use Rattle.vschema.specs.declared.catalog.Column.{Column}
 use Rattle.vschema.specs.declared.catalog.OpeningRow.{OpeningRow}
 use Rattle.vschema.specs.declared.catalog.Table.{Table}

@@ -7,6 +7,7 @@ mod MoveLaws
 mod OutputLaws
 mod PollLaws
 mod QueryLaws
+mod RowLaws
 mod RunLaws
 mod ScanLaws
 mod SessionLaws

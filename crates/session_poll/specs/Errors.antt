@@ -1,5 +1,5 @@
 -- The error rule in a Query.
-use Rattle.std.specs.Prelude.{◌≡◌, Bool, true, false, List, [], ◌∷◌, ◌++◌, Option, Some, None, ◌⊎◌}
+use Rattle.std.specs.Prelude.{◌≡◌, Bool, true, false, [], ◌∷◌, ◌++◌, Option, Some, None, ◌⊎◌}
 use Rattle.pg_messages.specs.declared.back.Back.{Back}
 use Rattle.session_poll.specs.Courses.{Course, goes}
 use Rattle.session_poll.specs.Replies.{error_of, out_of_memory, ready_for_query}

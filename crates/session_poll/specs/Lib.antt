@@ -2,6 +2,7 @@ pub mod AnswerMessages
 pub mod Answers
 pub mod Begins
 pub mod Courses
+pub mod DataRows
 pub mod Errors
 pub mod Output
 pub mod Packets

@@ -1,13 +1,14 @@
 //! How an answer is spelled: its columns, and each of its rows under its condition.
 
 ghost use Rattle.std.specs.Prelude.{◌≡◌, ◌++◌, [], ◌∷◌, map, length, true, take, drop, IfOk, OnOk, OnErr};
-ghost use Rattle.session_poll.specs.AnswerMessages.{name_text, when_text, field_of, column_field, when_field, value_text, cell_text, select_tag, select_complete};
+ghost use Rattle.session_poll.specs.AnswerMessages.{name_text, when_text, field_of, column_field, when_field, select_tag, select_complete};
 ghost use Rattle.session_poll.specs.AnswerMessages as spelling;
 ghost use Rattle.session_poll.specs.Output.{KeepsFront};
 ghost use Rattle.session_poll.specs.Replies.{spelled};
 
 use crate::output::Output;
-use feature_expr::{ColName, Expr, Features, Kind, List, Memory, Text, TryCopy, Value, print_expr};
+use crate::rows::put_data_row;
+use feature_expr::{ColName, Expr, Features, Kind, List, Memory, Text, print_expr};
 use itoa::Buffer;
 use pg_messages::{Back, Field};
 use std::alloc::Global;
@@ -62,25 +63,11 @@ fn put_rows(
     ensures begins { KeepsFront output.old.bytes output.new.bytes }
     ensures ready { output.new.is_ready ≡ true }
 {
+    let mut cells = Vec::new(alloc);
     'rows: for row in rows {
-        put_data_row(alloc, row, features, output)?;
+        put_data_row(alloc, row, features, &mut cells, output)?;
     }
     Ok(())
-}
-
-fn put_data_row(
-    alloc: Global,
-    row: &VRow,
-    features: &Features,
-    output: &mut Output,
-) -> Result<(), Memory>
-    requires { output.old.is_ready ≡ true }
-    ensures ok { OnOk result (output.new.bytes ≡ output.old.bytes ++ spelled (spelling.data_row features.now row.now ∷ [])) }
-    ensures err { OnErr result (output.new.bytes ≡ output.old.bytes) }
-    ensures ready { output.new.is_ready ≡ true }
-{
-    let message = data_row(alloc, row, features)?;
-    output.put(&message)
 }
 
 /// A field for each column, and last the field `when`, which holds each row's condition.
@@ -153,45 +140,6 @@ fn sized_field(name: Text, kind_number: u32, size: i16) -> Field
         kind_number,
         size,
         format: 0,
-    }
-}
-
-fn data_row(alloc: Global, row: &VRow, features: &Features) -> Result<Back, Memory>
-    ensures { IfOk result (λ it. it ≡ spelling.data_row features.now row.now) }
-{
-    let mut cells = Vec::with_capacity(alloc, row.cells.len())?;
-    'cells: for cell in row.cells.as_slice() {
-        cells.push(cell_text(alloc, cell)?)?;
-    }
-    cells.push(Some(print_expr(alloc, &row.cond, features)?))?;
-    Ok(Back::DataRow(List::from_vec(cells)))
-}
-
-fn cell_text(alloc: Global, cell: &Option<Value>) -> Result<Option<Text>, Memory>
-    ensures { IfOk result (λ it. it ≡ cell_text cell.now) }
-{
-    match cell {
-        Some(value) => {
-            let text = value_text(alloc, value)?;
-            Ok(Some(text))
-        }
-        None => Ok(None),
-    }
-}
-
-/// A value in text form.
-fn value_text(alloc: Global, value: &Value) -> Result<Text, Memory>
-    ensures { IfOk result (λ it. it ≡ value_text value.now) }
-{
-    match value {
-        Value::Int(number) => {
-            let mut buffer = Buffer::new();
-            let digits = buffer.format(*number);
-            Text::from_slice(alloc, digits.as_bytes())
-        }
-        Value::Text(text) => text.copy(alloc),
-        Value::Bool(true) => Text::from_slice(alloc, b"t"),
-        Value::Bool(false) => Text::from_slice(alloc, b"f"),
     }
 }
 

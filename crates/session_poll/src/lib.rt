@@ -11,6 +11,7 @@ mod polled;
 mod queries;
 mod refusal;
 mod replies;
+mod rows;
 mod scan;
 mod session;
 mod start_up;

@@ -1,4 +1,6 @@
 ghost use Rattle.std.specs.Prelude.{◌≡◌, ◌≤◌, ◌+◌, true, false, [], ◌++◌, length, take, drop, vec_len, vec_capacity, IfOk, OnOk, OnErr};
+ghost use Rattle.session_poll.specs.DataRows.{row_bytes};
+ghost use Rattle.session_poll.specs.declared.output.TheConstants.{CELLS_LIMIT};
 ghost use Rattle.pg_messages.specs.BackSpelling.{back_bytes};
 ghost use Rattle.session_poll.specs.Replies.{spelled};
 ghost use Rattle.session_poll.specs.Output.{KeepsFront, is_empty};
@@ -11,6 +13,11 @@ use std::marker::Model;
 
 /// How many bytes a reply of fixed bytes takes at most.
 pub const FIXED_SIZE: usize = 64;
+
+/// The greatest number of cells of a row of data, and of their bytes.
+const COUNT_LIMIT: usize = 65_535;
+
+const CELLS_LIMIT: usize = 2_147_483_641;
 
 /// The bytes that wait to be sent. The list grows as it has to. Room for a reply of fixed bytes is taken before a
 /// step and kept in it, so that want of memory can always be told.
@@ -108,6 +115,20 @@ impl Output {
         }
     }
 
+    /// Puts a row of data, whose cells are these bytes, so many cells. One that is too long to be told counts as want of
+    /// memory.
+    pub fn put_row(&mut self, count: usize, cells: &[u8]) -> Result<(), Memory>
+        requires { self.old.is_ready ≡ true }
+        ensures ok { OnOk result (self.new.bytes ≡ self.old.bytes ++ row_bytes count cells.now) }
+        ensures err { OnErr result (self.new.bytes ≡ self.old.bytes) }
+        ensures ready { self.new.is_ready ≡ true }
+    {
+        if count > COUNT_LIMIT || cells.len() > CELLS_LIMIT {
+            return Err(Memory);
+        }
+        append_row(&mut self.bytes, count as u16, cells)
+    }
+
     /// Keeps the first bytes alone.
     pub fn truncate(&mut self, count: usize)
         requires ready { self.old.is_ready ≡ true }
@@ -158,4 +179,31 @@ fn append(bytes: &mut Vec<u8>, more: &[u8]) -> Result<(), Memory>
     bytes.reserve(more.len() + FIXED_SIZE)?;
     let _fits = bytes.extend_from_slice(more);
     Ok(())
+}
+
+/// Appends a row of so many cells and keeps room for a reply of fixed bytes behind it, or leaves all as it was.
+fn append_row(bytes: &mut Vec<u8>, count: u16, cells: &[u8]) -> Result<(), Memory>
+    requires room { vec_len bytes.old + FIXED_SIZE ≤ vec_capacity bytes.old }
+    requires small { length cells.now ≤ CELLS_LIMIT }
+    ensures ok { OnOk result (bytes.new.items ≡ bytes.old.items ++ row_bytes count cells.now) }
+    ensures err { OnErr result (bytes.new.items ≡ bytes.old.items) }
+    ensures room { vec_len bytes.new + FIXED_SIZE ≤ vec_capacity bytes.new }
+    ensures capacity { vec_capacity bytes.old ≤ vec_capacity bytes.new }
+{
+    let length = cells.len() as u32 + 6;
+    bytes.reserve(cells.len() + 7 + FIXED_SIZE)?;
+    put(b"D", bytes);
+    put(&length.to_be_bytes(), bytes);
+    put(&count.to_be_bytes(), bytes);
+    put(cells, bytes);
+    Ok(())
+}
+
+/// Appends bytes for which there is room.
+fn put(more: &[u8], bytes: &mut Vec<u8>)
+    requires { vec_len bytes.old + length more.now ≤ vec_capacity bytes.old }
+    ensures bytes { bytes.new.items ≡ bytes.old.items ++ more.now }
+    ensures capacity { vec_capacity bytes.old ≤ vec_capacity bytes.new }
+{
+    let _fits = bytes.extend_from_slice(more);
 }
