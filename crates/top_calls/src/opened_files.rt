@@ -18,7 +18,10 @@ pub struct OpenedFiles<O> {
 }
 
 impl<O> OpenedFiles<O> {
-    pub fn new(opener: O) -> OpenedFiles<O> {
+    pub fn new(opener: O) -> OpenedFiles<O>
+        ensures opener { result.opener ≡ opener }
+        ensures faults { result.faults ≡ 0 }
+    {
         OpenedFiles { opener, faults: 0 }
     }
 }

@@ -1,3 +1,4 @@
+ghost use Rattle.std.specs.Prelude.{◌≡◌};
 ghost use Rattle.top_calls.specs.Sinks.{Held, Puts};
 
 use crate::sink::{Sink, SinkPut};
@@ -12,7 +13,10 @@ pub struct WriterSink<W> {
 }
 
 impl<W> WriterSink<W> {
-    pub fn new(writer: W) -> WriterSink<W> {
+    pub fn new(writer: W) -> WriterSink<W>
+        ensures writer { result.writer ≡ writer }
+        ensures faults { result.faults ≡ 0 }
+    {
         WriterSink { writer, faults: 0 }
     }
 }
