@@ -225,10 +225,9 @@ impl Typing<'_> {
     ) -> Result<(), Memory> {
         self.ask_operand(columns, left)?;
         self.ask_operand(columns, right)?;
-        if let Some(one) = self.kind_of(columns, left)
-            && let Some(other) = self.kind_of(columns, right)
-            && one != other
-        {
+        let one = self.kinds_of(columns, left)?;
+        let other = self.kinds_of(columns, right)?;
+        if differ(&one, &other) {
             let name = match left {
                 Operand::Column(name) => name.copy(self.alloc)?,
                 _ => empty_name(self.alloc),
@@ -252,16 +251,33 @@ impl Typing<'_> {
         self.add(IllCase::AbsentColumn, name)
     }
 
-    fn kind_of(&self, columns: &[Column], operand: &Operand) -> Option<Kind> {
+    /// More than one, where two columns have the name.
+    fn kinds_of(&self, columns: &[Column], operand: &Operand) -> Result<Vec<Kind>, Memory> {
+        let mut kinds = Vec::new(self.alloc);
         match operand {
-            Operand::Column(name) => kind_named(columns, name),
-            Operand::Literal(value) => Some(value.kind()),
-            Operand::Param(number) => kind_at(self.variant.kinds, *number),
+            Operand::Column(name) => {
+                for column in columns {
+                    if column.name == *name {
+                        kinds.push(column.kind)?;
+                    }
+                }
+            }
+            Operand::Literal(value) => kinds.push(value.kind())?,
+            Operand::Param(number) => {
+                if let Some(kind) = kind_at(self.variant.kinds, *number) {
+                    kinds.push(kind)?;
+                }
+            }
         }
+        Ok(kinds)
     }
 }
 
-fn kind_named(columns: &[Column], name: &ColName) -> Option<Kind> {
-    let column = columns.iter().find(|column| column.name == *name)?;
-    Some(column.kind)
+/// Whether a kind on one side isn't one on the other.
+fn differ(left: &[Kind], right: &[Kind]) -> bool {
+    left.iter().any(|kind| has_other(right, *kind))
+}
+
+fn has_other(kinds: &[Kind], kind: Kind) -> bool {
+    kinds.iter().any(|other| *other != kind)
 }
