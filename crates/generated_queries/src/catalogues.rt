@@ -53,7 +53,7 @@ fn put_table(alloc: Global, writing: &mut Writing, name: &str) -> Result<(), Mem
         writing.put_when(3)?;
     }
     writing.put(";\n")?;
-    for _ in 0..writing.random.below(4) {
+    for _ in 0..writing.random.below(5).min(3) {
         put_row(writing, name, &kinds)?;
     }
     Ok(())

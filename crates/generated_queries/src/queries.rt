@@ -1,12 +1,12 @@
 use crate::random::Random;
 use crate::terms::{PARAMETER_KINDS, Writing};
-use plain_evaluator::{Column, is_well_typed, possible_columns};
+use plain_evaluator::{Column, Variant, admitted, is_well_typed, possible_columns};
 use query_parser::{ParseRefused, parse};
 use std::alloc::Global;
 use std::str;
-use values::Memory;
+use values::{List, Memory};
 use vra_syntax::{Query, Statement};
-use vschema::Catalog;
+use vschema::{Catalog, OpeningRow};
 
 /// The text of a query, how deep its forms nest, and a bound on its rows in one variant.
 #[derive(Drop)]
@@ -20,19 +20,22 @@ const DEPTH: usize = 4;
 
 const ROWS: usize = 60;
 
-/// The text of a query over a generated catalogue, of at most four forms within one another. Most are well typed, if the
-/// parameters have the kinds `PARAMETER_KINDS`.
+/// The text of a query over a generated catalogue with its opening rows, of at most four forms within one another. Some
+/// four of five are well typed, if the parameters have the kinds `PARAMETER_KINDS`, and most of these have a row in some
+/// variant.
 pub fn generated_query(
     alloc: Global,
     random: &mut Random,
     catalog: &Catalog,
+    rows: &List<OpeningRow>,
 ) -> Result<String, Memory> {
     let may_be_ill = random.one_of(2);
     let mut parts = first_parts(alloc, catalog)?;
     for _ in 0..2 + random.below(6) {
-        add_part(alloc, random, catalog, true, &mut parts)?;
+        add_part(alloc, random, catalog, Some(rows), &mut parts)?;
     }
-    add_part(alloc, random, catalog, !may_be_ill, &mut parts)?;
+    let last = if may_be_ill { None } else { Some(rows) };
+    add_part(alloc, random, catalog, last, &mut parts)?;
     match parts.pop() {
         Some(part) => Ok(part.text),
         None => Ok(String::new(alloc)),
@@ -59,18 +62,18 @@ fn leaf(alloc: Global, name: &[u8], rows: usize) -> Result<Part, Memory> {
     })
 }
 
-/// Adds a form over two of the parts, if one of a few attempts succeeds: one that is small, and well typed where it has
-/// to be.
+/// Adds a form over two of the parts, if one of a few attempts succeeds: one that is small, and good where these rows are
+/// given.
 fn add_part(
     alloc: Global,
     random: &mut Random,
     catalog: &Catalog,
-    is_strict: bool,
+    rows: Option<&List<OpeningRow>>,
     parts: &mut Vec<Part>,
 ) -> Result<(), Memory> {
     for _ in 0..6 {
         if let Some(part) = attempt(alloc, random, catalog, parts)?
-            && (!is_strict || is_good(alloc, catalog, part.text.as_str())?)
+            && is_good(alloc, random, catalog, rows, part.text.as_str())?
         {
             parts.push(part)?;
             return Ok(());
@@ -106,12 +109,52 @@ fn late_place(random: &mut Random, parts: &[Part]) -> usize {
     one.max(other).max(1)
 }
 
-/// Whether it is a query, and a well-typed one.
-fn is_good(alloc: Global, catalog: &Catalog, text: &str) -> Result<bool, Memory> {
-    match parsed(alloc, catalog, text)? {
-        Some(query) => is_well_typed(alloc, catalog, &PARAMETER_KINDS, &query),
-        None => Ok(false),
+/// Whether it is a well-typed query that mostly has a column, and often a row, in some variant.
+fn is_good(
+    alloc: Global,
+    random: &mut Random,
+    catalog: &Catalog,
+    rows: Option<&List<OpeningRow>>,
+    text: &str,
+) -> Result<bool, Memory> {
+    let Some(rows) = rows else {
+        return Ok(true);
+    };
+    let Some(query) = parsed(alloc, catalog, text)? else {
+        return Ok(false);
+    };
+    if !is_well_typed(alloc, catalog, &PARAMETER_KINDS, &query)? {
+        return Ok(false);
     }
+    match random.below(12) {
+        0 => Ok(true),
+        1 | 2 | 3 => shows(alloc, catalog, rows, &query, false),
+        _ => shows(alloc, catalog, rows, &query, true),
+    }
+}
+
+/// Whether the query has a column in some variant, or a row even. Parameters have no values yet.
+fn shows(
+    alloc: Global,
+    catalog: &Catalog,
+    rows: &List<OpeningRow>,
+    query: &Query,
+    has_row: bool,
+) -> Result<bool, Memory> {
+    for config in admitted(alloc, catalog)? {
+        let variant = Variant {
+            alloc,
+            catalog,
+            rows,
+            kinds: &PARAMETER_KINDS,
+            config,
+        };
+        let relation = variant.meaning(query)?;
+        if !relation.columns.is_empty() && !(has_row && relation.rows.is_empty()) {
+            return Ok(true);
+        }
+    }
+    Ok(false)
 }
 
 fn parsed(alloc: Global, catalog: &Catalog, text: &str) -> Result<Option<Query>, Memory> {
@@ -145,20 +188,20 @@ fn form(
     let deeper = left.depth.max(right.depth).saturating_add(1);
     let sum = left.rows.saturating_add(right.rows);
     let product = left.rows.saturating_mul(right.rows);
-    let (text, depth, rows) = match random.below(9) {
+    let (text, depth, rows) = match random.below(10) {
         0 | 1 | 2 => {
             let source = aliased(alloc, random, one, "x")?;
             let text = selected(alloc, random, catalog, source.as_str())?;
             (text, left.depth.saturating_add(1), left.rows)
         }
-        3 | 4 => {
+        3 | 4 | 5 => {
             let source = joined(alloc, random, catalog, one, other)?;
             let text = selected(alloc, random, catalog, source.as_str())?;
             (text, deeper.saturating_add(1), product)
         }
-        5 => (format!(in alloc; "({one}) union ({other})")?, deeper, sum),
-        6 => (format!(in alloc; "({one}) except ({other})")?, deeper, sum),
-        7 => {
+        6 => (format!(in alloc; "({one}) union ({other})")?, deeper, sum),
+        7 => (format!(in alloc; "({one}) except ({other})")?, deeper, sum),
+        8 => {
             let sign = random.word(&["union", "except"]);
             let text = with_some_rows(alloc, random, catalog, one, sign)?;
             (text, left.depth.saturating_add(2), sum)
@@ -186,9 +229,11 @@ fn expression(alloc: Global, random: &mut Random, catalog: &Catalog) -> Result<S
     Ok(writing.text)
 }
 
-/// A query in brackets as a source, often with an alias.
+/// A query in brackets as a source, often with an alias; seldom a table that isn't known.
 fn aliased(alloc: Global, random: &mut Random, text: &str, alias: &str) -> Result<String, Memory> {
-    if random.one_of(3) {
+    if random.one_of(40) {
+        Ok(format!(in alloc; "w as {alias}")?)
+    } else if random.one_of(3) {
         Ok(format!(in alloc; "({text})")?)
     } else {
         Ok(format!(in alloc; "({text}) as {alias}")?)

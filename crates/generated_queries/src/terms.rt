@@ -144,12 +144,14 @@ impl Writing<'_> {
         self.put_partner(columns, column.kind)
     }
 
-    /// What stands opposite a column of this kind; seldom it has another one.
+    /// What stands opposite a column of this kind; seldom it has another one, or none.
     fn put_partner(&mut self, columns: &[Column], kind: Kind) -> Result<(), Memory> {
-        match self.random.below(16) {
+        match self.random.below(32) {
             0 => self.put_value(Kind::Int),
-            1 | 2 => self.put_parameter(kind),
-            3 | 4 | 5 => {
+            1 => self.put("$4"),
+            2 => self.put("q"),
+            3 | 4 | 5 => self.put_parameter(kind),
+            6 | 7 | 8 | 9 | 10 => {
                 let place = self.random.below(columns.len());
                 match columns.get(place) {
                     Some(column) => self.put_name(&column.name),
@@ -191,7 +193,7 @@ impl Writing<'_> {
     fn put_item(&mut self, columns: &[Column]) -> Result<(), Memory> {
         let place = self.random.below(columns.len());
         match columns.get(place) {
-            Some(column) if !self.random.one_of(40) => self.put_name(&column.name)?,
+            Some(column) if !self.random.one_of(16) => self.put_name(&column.name)?,
             _ => self.put("q")?,
         }
         if self.random.one_of(2) {

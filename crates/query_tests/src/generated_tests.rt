@@ -41,7 +41,7 @@ fn generated_queries_are_what_queries_are(rt: HostRuntime) -> Result<(), Fail> {
         let (catalog, rows) = parse_catalog(alloc, spelled.as_bytes())?;
         assert!(rt; check_catalog(alloc, &catalog, &rows).is_ok(), "{spelled}");
         for _ in 0..QUERIES {
-            let text = generated_query(alloc, &mut random, &catalog)?;
+            let text = generated_query(alloc, &mut random, &catalog, &rows)?;
             let given = Given {
                 alloc,
                 spelled: spelled.as_str(),
