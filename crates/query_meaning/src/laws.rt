@@ -10,6 +10,7 @@ ghost use Rattle.query_meaning.specs.Plans.{IsSound, bound_plan, plan_of, plan_p
 ghost use Rattle.query_meaning.specs.PossibleColumns.{all_among, possible_columns};
 ghost use Rattle.query_meaning.specs.Sources.{Source, catalog_source};
 ghost use Rattle.query_meaning.specs.Typing.{IsWellTyped};
+ghost use Rattle.query_meaning.specs.WorkedRows.{WorkedBounds, WorkedMeanings, WorkedTypes, WorkedWrites};
 ghost use Rattle.query_meaning.specs.declared.plan.Plan.{Plan};
 ghost use Rattle.values.specs.declared.value.Kind.{Kind};
 ghost use Rattle.values.specs.declared.value.Value.{Value};
@@ -75,4 +76,12 @@ pub fn bound_laws()
     ensures plan_stays { (sources : ℕ → Source) (sizes : ℕ → Size) (values : List Value) (plan : Plan) → plan_size sources sizes (bound_plan values plan) ≡ plan_size sources sizes plan }
     ensures pairs_stay { (sources : ℕ → Source) (sizes : ℕ → Size) (values : List Value) (plan : Plan) → pairs_bound sources sizes (bound_plan values plan) ≡ pairs_bound sources sizes plan }
     ensures query_stays { (tables : List Table) (sizes : ℕ → Size) (values : List Value) (query : Query) → query_size tables sizes (bound_query values query) ≡ query_size tables sizes query }
+{}
+
+/// What the definitions are on small tables, worked out by hand. The call itself does nothing.
+pub fn worked_rows()
+    ensures types { WorkedTypes }
+    ensures writes { WorkedWrites }
+    ensures meanings { WorkedMeanings }
+    ensures bounds { WorkedBounds }
 {}
