@@ -92,9 +92,12 @@ with_distinct : (b : Bool) (ks : List Column) (k : Column) → among k ks ≡ b 
 with_distinct true ks k is d = d
 with_distinct false ks k is d = distinct_push ks k d is
 
+pub with_column_distinct : (ks : List Column) (k : Column) → distinct ks ≡ true → distinct (with_column ks k) ≡ true
+with_column_distinct ks k d = with_distinct (among k ks) ks k refl d
+
 fold_distinct : (ks front : List Column) → distinct front ≡ true → distinct (fold with_column front ks) ≡ true
 fold_distinct [] front d = d
-fold_distinct (k ∷ ks) front d = fold_distinct ks (with_column front k) (with_distinct (among k front) front k refl d)
+fold_distinct (k ∷ ks) front d = fold_distinct ks (with_column front k) (with_column_distinct front k d)
 
 pub distinct_once : (ks : List Column) → distinct (once ks) ≡ true
 distinct_once ks = fold_distinct ks [] refl
