@@ -3,20 +3,24 @@ use Rattle.std.proofs.Common.{◌≡◌, ◌∙◌, ℕ, ◌+◌, ◌*◌, ◌<�
 use Rattle.std.specs.List.{sum_by}
 use Rattle.std.proofs.lemmas.Bool.{or_cases, or_left, or_right}
 use Rattle.std.proofs.Math.Seq.{drop-cons}
-use Rattle.std.proofs.lemmas.List.{take-append-drop}
+use Rattle.std.proofs.lemmas.List.{take-append-drop, take_more}
 use Rattle.std.proofs.lemmas.List.Folds.{list_any-append}
 use Rattle.std.proofs.lemmas.List.Sums.{sum_by-append}
 use Rattle.std.proofs.Common.{inl, inr}
 use Rattle.feature_expr.specs.Expressions.{mentions, weight_of}
 use Rattle.feature_expr.specs.Satisfaction.{satisfies}
 use Rattle.feature_expr.specs.declared.expr.Expr.{Expr}
+use Rattle.feature_expr.specs.declared.expr.Expr as e
 use Rattle.values.specs.declared.column_name.ColName.{ColName}
+use Rattle.values.specs.declared.value.Kind.{Kind}
 use Rattle.plain_relation.specs.Relations.{Column, has_name}
-use Rattle.relational_algebra.specs.Columns.{aliased, among, named, renamed}
+use Rattle.relational_algebra.specs.Columns.{aliased, among, named, renamed, same_column}
 use Rattle.query_meaning.specs.PossibleColumns.{all_among}
 use Rattle.query_meaning.specs.Typing.{columns_at, columns_weight, heading, headings}
 use Rattle.query_meaning.specs.declared.typed.TypedColumn.{TypedColumn}
+use Rattle.query_meaning.proofs.ColumnSets.{all_itself, column_decides}
 use Rattle.conditional_columns.specs.ColumnLists.{any_holds, behind_alias, columns_cost, columns_mention, conds_cost, conds_mention, conds_of, given_under, is_some_there, like, under, with_name}
+use Rattle.conditional_columns.proofs.Connectives.{holds_True}
 use Rattle.conditional_columns.proofs.ListLaws.{alias_at, alias_headings, alias_mention, alias_weight, column_holds, columns_at-append, conds_cost_is, conds_mention_is, given_at, given_headings, given_mention, given_weight, headings-append, mention-append, name_holds, picked_cost, picked_mention, some_holds, under_at, under_cost, under_headings, under_mention}
 
 -- reading
@@ -192,3 +196,20 @@ drop_is xs i x below is = drop-cons xs i x below ∙ ap (λ y. y ∷ drop (suc i
 
 pub whole_is : (xs : List TypedColumn) (i : ℕ) (x : TypedColumn) → i < length xs → x ≡ get_or xs i x → xs ≡ take i xs ++ x ∷ drop (i + 1) xs
 whole_is xs i x below is = sym (take-append-drop i xs) ∙ ap (λ ys. take i xs ++ ys) (drop_is xs i x below is)
+
+-- a list and itself
+
+pub same_asked : (c : List ℕ) (columns others : List TypedColumn) → columns ≡ others → satisfies c e.True ≡ all_among (columns_at c columns) (columns_at c others)
+same_asked c columns others is = holds_True c ∙ sym (ap (λ xs. all_among (columns_at c columns) (columns_at c xs)) (sym is) ∙ all_itself (columns_at c columns))
+
+abbrev made_column : ColName → Kind → Expr → TypedColumn
+made_column name kind cond = record { name = name; kind = kind; cond = cond }
+
+pub same_typed : (one other : TypedColumn) → same_column (heading one) (heading other) ≡ true → one.cond ≡ other.cond → one ≡ other
+same_typed one other same cond =
+    let k = (column_decides (heading one) (heading other)).0 same in
+    ap (λ (h : Column). made_column h.name h.kind one.cond) k ∙ ap (made_column other.name other.kind) cond
+
+pub same_more : (xs ys : List TypedColumn) (i : ℕ) (x y : TypedColumn) → i < length xs → i < length ys → x ≡ get_or xs i x → y ≡ get_or ys i y → x ≡ y → take i xs ≡ take i ys → take (i + 1) xs ≡ take (i + 1) ys
+same_more xs ys i x y below under x_is y_is same before =
+    take_more xs i x below ∙ ap (λ zs. zs ++ get_or xs i x ∷ []) before ∙ ap (λ z. take i ys ++ z ∷ []) (sym x_is ∙ same ∙ y_is) ∙ sym (take_more ys i y under)

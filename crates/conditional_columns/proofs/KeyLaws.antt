@@ -30,7 +30,7 @@ names_turned one other = turned (same_name one other) (same_name other one) (nam
 numbers_turned : (m n : ℕ) → (m == n) ≡ (n == m)
 numbers_turned m n = turned (m == n) (n == m) (Decides-eqb m n) (Decides-eqb n m) sym sym
 
-kinds_numbered : (one other : Kind) → (kind_number one == kind_number other) ≡ same_kind one other
+pub kinds_numbered : (one other : Kind) → (kind_number one == kind_number other) ≡ same_kind one other
 kinds_numbered kind.Int kind.Int = refl
 kinds_numbered kind.Int kind.Text = refl
 kinds_numbered kind.Int kind.Bool = refl

@@ -3,3 +3,4 @@ mod Connectives
 mod KeyLaws
 mod ListLaws
 mod SettleLaws
+mod StoredLaws

@@ -4,9 +4,13 @@
 mod disjunction;
 mod put;
 mod read;
+mod same;
 mod settling;
+mod stored;
 
 pub use disjunction::either;
 pub use put::{add_named, add_where, behind};
 pub use read::{all_in, any_in, cond_in, name_in};
+pub use same::are_same;
 pub use settling::settle;
+pub use stored::table_columns;

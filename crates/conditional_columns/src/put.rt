@@ -55,7 +55,8 @@ fn under_too(alloc: Global, expr: &Expr, column: &TypedColumn) -> Result<TypedCo
     })
 }
 
-fn and_too(alloc: Global, expr: &Expr, cond: &Expr) -> Result<Expr, Memory>
+/// Holds where both do.
+pub fn and_too(alloc: Global, expr: &Expr, cond: &Expr) -> Result<Expr, Memory>
     ensures { IfOk result (λ it. it ≡ and_of expr.now cond.now) }
 {
     let expr = expr.copy(alloc)?;

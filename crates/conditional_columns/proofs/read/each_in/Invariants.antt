@@ -5,7 +5,7 @@ use Rattle.feature_expr.specs.Satisfaction.{satisfies}
 use Rattle.query_meaning.specs.PossibleColumns.{all_among}
 use Rattle.query_meaning.specs.Typing.{columns_at}
 use Rattle.conditional_columns.specs.ColumnLists.{columns_mention}
-use Rattle.conditional_columns.proofs.read.all_in.Given as goal
+use Rattle.conditional_columns.proofs.read.each_in.Given as goal
 
 -- what is asked of those that are left, and of those so far, is asked of all
 abbrev pub invariant-loop-column : goal.invariant-loop-column
