@@ -240,3 +240,61 @@ among_all (x ∷ ks) others k h in_ks =
       | inl is ↦ subst (λ (w : Column). among w others ≡ true) (sym ((column_decides k x).0 is)) parts.0
       | inr rest ↦ among_all ks others k parts.1 rest
     ]
+
+-- what is in the order of others already
+
+-- two tests that agree on the columns of a list keep the same of it
+filter_same : (p q : Column → Bool) (ks : List Column) → ((k : Column) → among k ks ≡ true → p k ≡ q k) → filter p ks ≡ filter q ks
+filter_same p q [] agree = refl
+filter_same p q (x ∷ ks) agree =
+    kept (p x) (q x) (agree x (or_left (same_column x x) (among x ks) (same_itself x))) (filter_same p q ks (λ k in_ks. agree k (or_right (same_column k x) (among k ks) in_ks)))
+  where
+    kept : (b d : Bool) → b ≡ d → filter p ks ≡ filter q ks → kept_first b x (filter p ks) ≡ kept_first d x (filter q ks)
+    kept b d e f = rw (e, f) refl
+
+-- what fails the test isn't kept
+none_passes : (p : Column → Bool) (ks : List Column) (k : Column) → p k ≡ false → among k (filter p ks) ≡ false
+none_passes p [] k fails = refl
+none_passes p (x ∷ ks) k fails = kept (p x) refl (none_passes p ks k fails)
+  where
+    kept : (b : Bool) → p x ≡ b → among k (filter p ks) ≡ false → among k (kept_first b x (filter p ks)) ≡ false
+    kept true passes none = or_from (same_column k x) (among k (filter p ks)) (false_from_ne_true (same_column k x) (λ same. let one = subst (λ (w : Column). p w ≡ false) ((column_decides k x).0 same) fails in absurd (cc (one, passes)))) none
+    kept false passes none = none
+
+kept_among : (p : Column → Bool) (order : List Column) (k : Column) → among k order ≡ true → p k ≡ among k (filter p order)
+kept_among p order k in_order = by_test (p k) refl
+  where
+    here : (ks : List Column) → among k ks ≡ true → p k ≡ true → among k (filter p ks) ≡ true
+    here [] in_ks passes = in_ks
+    here (x ∷ ks) in_ks passes = elim (or_cases (same_column k x) (among k ks) in_ks) [
+      | inl same ↦ first (p x) (subst (λ (w : Column). p w ≡ true) ((column_decides k x).0 same) passes) same
+      | inr rest ↦ later (p x) (here ks rest passes)
+    ]
+      where
+        first : (b : Bool) → b ≡ true → same_column k x ≡ true → among k (kept_first b x (filter p ks)) ≡ true
+        first true is same = or_left (same_column k x) (among k (filter p ks)) same
+        first false is same = absurd (cc is)
+
+        later : (b : Bool) → among k (filter p ks) ≡ true → among k (kept_first b x (filter p ks)) ≡ true
+        later true rest = or_right (same_column k x) (among k (filter p ks)) rest
+        later false rest = rest
+
+    by_test : (b : Bool) → p k ≡ b → p k ≡ among k (filter p order)
+    by_test true passes = passes ∙ sym (here order in_order passes)
+    by_test false fails = fails ∙ sym (none_passes p order k fails)
+
+-- what is kept of an order is in this order
+pub order_again : (order ks : List Column) → in_order_of order ks ≡ in_order_of order (in_order_of order ks)
+order_again order ks = filter_same (λ k. among k ks) (λ k. among k (in_order_of order ks)) order (kept_among (λ k. among k ks) order)
+
+pub none_in_order : (order : List Column) → [] ≡ in_order_of order []
+none_in_order [] = refl
+none_in_order (k ∷ order) = none_in_order order
+
+-- one column more in front, which the others lack
+pub order_cons : (k : Column) (order ks : List Column) → among k order ≡ false → in_order_of order ks ≡ in_order_of order (k ∷ ks)
+order_cons k order ks new = filter_same (λ x. among x ks) (λ x. among x (k ∷ ks)) order (λ x in_order. other x in_order (same_column x k) refl)
+  where
+    other : (x : Column) → among x order ≡ true → (b : Bool) → same_column x k ≡ b → among x ks ≡ (same_column x k || among x ks)
+    other x in_order true same = let clash = subst (λ (w : Column). among w order ≡ true) ((column_decides x k).0 same) in_order in absurd (cc (clash, new))
+    other x in_order false same = rw (same) refl

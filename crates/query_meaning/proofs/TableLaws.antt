@@ -1,6 +1,6 @@
 -- The columns of a stored table: those of a variant are among all of them, and where their names are distinct, each stands
 -- once, and those of a variant have distinct names.
-use Rattle.std.proofs.Common.{◌≡◌, ℕ, zero, suc, Bool, true, false, not, List, [], ◌∷◌, map, Option, Some, None, refl, sym}
+use Rattle.std.proofs.Common.{◌≡◌, ℕ, zero, suc, Bool, true, false, not, List, [], ◌∷◌, map, Option, Some, None, refl, sym, ap, ◌∙◌}
 use Rattle.std.specs.Prelude.{slice_get, if◌then◌else◌}
 use Rattle.std.specs.List.{list_all}
 use Rattle.std.specs.Str.{bytes_eq}
@@ -13,10 +13,10 @@ use Rattle.vschema.specs.Formed.{column_names, has_distinct_columns}
 use Rattle.vschema.specs.Variants.{bare_name, column_at, has_column}
 use Rattle.vschema.specs.declared.catalog.Column as catalog
 use Rattle.vschema.specs.declared.catalog.Table.{Table}
-use Rattle.relational_algebra.specs.Columns.{among, once, repeated, same_column}
+use Rattle.relational_algebra.specs.Columns.{among, in_order_of, once, repeated, same_column}
 use Rattle.query_meaning.specs.PossibleColumns.{all_among}
 use Rattle.query_meaning.specs.Sources.{catalog_source, source_of, table_column}
-use Rattle.query_meaning.proofs.ColumnSets.{distinct, distinct_from, once_distinct, all_behind, same_itself, repeated_from}
+use Rattle.query_meaning.proofs.ColumnSets.{all_behind, among_all, distinct, distinct_from, once_distinct, order_cons, repeated_from, same_itself}
 
 -- a table's columns in a variant, cut from some of its columns on
 abbrev cut : List ℕ → Table → List catalog.Column → List Column
@@ -71,6 +71,20 @@ possible_once (column ∷ columns) d =
     let parts = parts_of column.name (column_names columns) d in
     distinct_from (table_column column) (map table_column columns) (new_column column columns parts.0) (possible_once columns parts.1)
 
+cut_ordered : (c : List ℕ) (table : Table) (columns : List catalog.Column) → formed.distinct (column_names columns) ≡ true → cut c table columns ≡ in_order_of (map table_column columns) (cut c table columns)
+cut_ordered c table [] d = refl
+cut_ordered c table (column ∷ columns) d =
+    let parts = parts_of column.name (column_names columns) d in
+    there (has_column c table column) (new_column column columns parts.0) (cut_ordered c table columns parts.1) (cut_among c table columns)
+  where
+    there : (b : Bool) → among (table_column column) (map table_column columns) ≡ false → cut c table columns ≡ in_order_of (map table_column columns) (cut c table columns) → all_among (cut c table columns) (map table_column columns) ≡ true
+        → columns_of ((if b then Some (table_column column) else None) ∷ map (column_at c table) columns) ≡ in_order_of (table_column column ∷ map table_column columns) (columns_of ((if b then Some (table_column column) else None) ∷ map (column_at c table) columns))
+    there true new rest within =
+        rw (same_itself (table_column column)) (ap (λ ks. table_column column ∷ ks) (rest ∙ order_cons (table_column column) (map table_column columns) (cut c table columns) new))
+    there false new rest within =
+        let absent : among (table_column column) (cut c table columns) ≡ false = false_from_ne_true (among (table_column column) (cut c table columns)) (λ in_cut. let there = among_all (cut c table columns) (map table_column columns) (table_column column) within in_cut in absurd (cc (there, new))) in
+        rw (absent) rest
+
 -- the tables of a catalogue
 
 -- what holds of no table and of each of the tables holds of whichever stands at a number
@@ -88,6 +102,9 @@ stored_among c tables number = source_among c (slice_get tables number)
 
 pub stored_names : (c : List ℕ) (tables : List Table) → list_all has_distinct_columns tables ≡ true → (number : ℕ) → repeated ((catalog_source tables number).columns_at c) ≡ []
 stored_names c tables all number = at_number has_distinct_columns (λ table. repeated ((source_of table).columns_at c) ≡ []) refl (λ table d. cut_names c table table.columns d) tables number all
+
+pub stored_ordered : (c : List ℕ) (tables : List Table) → list_all has_distinct_columns tables ≡ true → (number : ℕ) → (catalog_source tables number).columns_at c ≡ in_order_of (catalog_source tables number).possible ((catalog_source tables number).columns_at c)
+stored_ordered c tables all number = at_number has_distinct_columns (λ table. (source_of table).columns_at c ≡ in_order_of (source_of table).possible ((source_of table).columns_at c)) refl (λ table d. cut_ordered c table table.columns d) tables number all
 
 pub stored_once : (tables : List Table) → list_all has_distinct_columns tables ≡ true → (number : ℕ) → once (catalog_source tables number).possible ≡ (catalog_source tables number).possible
 stored_once tables all number = at_number has_distinct_columns (λ table. once (source_of table).possible ≡ (source_of table).possible) refl (λ table d. once_distinct _ (possible_once table.columns d)) tables number all

@@ -24,11 +24,11 @@ use Rattle.query_meaning.specs.Sources.{Source, catalog_source}
 use Rattle.query_meaning.specs.declared.ill.IllCase.TheVariants as ill
 use Rattle.query_meaning.specs.declared.plan.Plan.{Plan}
 use Rattle.query_meaning.specs.declared.plan.Plan.TheOpen.{Plan-F}
-use Rattle.query_meaning.proofs.ColumnSets.{all_in_order, among_all, distinct, distinct_once, names_in_order, once_again}
+use Rattle.query_meaning.proofs.ColumnSets.{all_in_order, among_all, distinct, distinct_once, names_in_order, none_in_order, once_again, order_again}
 use Rattle.query_meaning.proofs.PlanFolds.{Keeps, carried, related}
 use Rattle.query_meaning.proofs.PlanLaws.{same_possible}
 use Rattle.query_meaning.proofs.SoundLaws.{follows, no_more}
-use Rattle.query_meaning.proofs.TableLaws.{stored_among, stored_names, stored_once}
+use Rattle.query_meaning.proofs.TableLaws.{stored_among, stored_names, stored_once, stored_ordered}
 
 -- what holds of no columns, and of a form's columns where none of its cases holds, holds of the form's type
 
@@ -177,6 +177,39 @@ module _ (c : List ℕ) (sources : ℕ → Source) where
       subst (λ possible. all_among (columns_in (plan_type c sources p)) possible ≡ true) (carried TypedPart sources (λ (part : TypedPart). part.possible) φ (record { layer = λ x. refl }) p)
       (related TypedPart TypedPart φ φ IsAmong (keeps_among stored) p)
 
+  -- in the order of the possible columns
+
+  abbrev Ordered : List Column → List Column → Type 0
+  Ordered order ks = ks ≡ in_order_of order ks
+
+  abbrev IsOrdered : TypedPart → TypedPart → Type 0
+  IsOrdered part other = columns_in part.type ≡ in_order_of part.possible (columns_in part.type)
+
+  keeps_ordered : ((table : ℕ) → (sources table).columns_at c ≡ in_order_of (sources table).possible ((sources table).columns_at c)) → Keeps TypedPart TypedPart φ φ IsOrdered
+  keeps_ordered stored = record {
+    scan = stored;
+    filter = λ x y cond h. h;
+    keep = λ x y items h. over_any (Ordered (possible_kept items x.possible)) (select_type (possible_kept items x.possible) c items not_asked) x.type (none_in_order (possible_kept items x.possible)) (kept_ordered items x.possible (columns_in x.type) h);
+    join = λ a b x y cond h k. both_any (Ordered (merged a.possible b.possible)) (join_type (merged a.possible b.possible) not_asked) a.type b.type (none_in_order (merged a.possible b.possible)) (again (merged a.possible b.possible) _ (both_sides (columns_in a.type) (columns_in b.type)));
+    union = λ a b x y h k. both_any (Ordered (merged a.possible b.possible)) (union_type (merged a.possible b.possible)) a.type b.type (none_in_order (merged a.possible b.possible)) (again (merged a.possible b.possible) _ (columns_in a.type ++ columns_in b.type));
+    except = λ a b x y h k. both_any (Ordered a.possible) except_type a.type b.type (none_in_order a.possible) (unless_any (Ordered a.possible) (columns_differ (columns_in a.type) (columns_in b.type)) (columns_in a.type) (none_in_order a.possible) (λ none. h));
+    rename = λ x y name h. over_any (Ordered (once (aliased name x.possible))) (alias_type (once (aliased name x.possible)) name) x.type (none_in_order (once (aliased name x.possible))) (again (once (aliased name x.possible)) _ (aliased name (columns_in x.type)));
+    choose = λ expr a b x y h k. chosen_any (Ordered (merged a.possible b.possible)) (satisfies c expr) (merged a.possible b.possible) a.type b.type (none_in_order (merged a.possible b.possible)) (order_again (merged a.possible b.possible));
+    nothing = refl;
+  }
+    where
+      again : (order : List Column) (cases : List Case) (columns : List Column) → columns_in (unless cases (in_order_of order columns)) ≡ in_order_of order (columns_in (unless cases (in_order_of order columns)))
+      again order cases columns = unless_any (λ ks. ks ≡ in_order_of order ks) cases (in_order_of order columns) (none_in_order order) (λ none. order_again order columns)
+
+      kept_ordered : (items : Items) (possible columns : List Column) → columns ≡ in_order_of possible columns → columns_in (select_type (possible_kept items possible) c items not_asked columns) ≡ in_order_of (possible_kept items possible) (columns_in (select_type (possible_kept items possible) c items not_asked columns))
+      kept_ordered All possible columns h = unless_any (λ ks. ks ≡ in_order_of possible ks) _ columns (none_in_order possible) (λ none. h)
+      kept_ordered (Listed items) possible columns h = again (possible_kept (Listed items) possible) _ (kept c (Listed items) columns)
+
+  pub plan_ordered : ((table : ℕ) → (sources table).columns_at c ≡ in_order_of (sources table).possible ((sources table).columns_at c)) → (p : Plan) → columns_in (plan_type c sources p) ≡ in_order_of (plan_possible sources p) (columns_in (plan_type c sources p))
+  plan_ordered stored p =
+      subst (λ possible. columns_in (plan_type c sources p) ≡ in_order_of possible (columns_in (plan_type c sources p))) (carried TypedPart sources (λ (part : TypedPart). part.possible) φ (record { layer = λ x. refl }) p)
+      (related TypedPart TypedPart φ φ IsOrdered (keeps_ordered stored) p)
+
 -- the possible columns stand once
 
 keeps_once : (sources : ℕ → Source) → ((table : ℕ) → once (sources table).possible ≡ (sources table).possible) → Keeps (List Column) (List Column) (plan_possible_step sources) (plan_possible_step sources) (λ columns other. once columns ≡ columns)
@@ -215,6 +248,11 @@ pub query_among : (c : List ℕ) (kinds : List Kind) (tables : List Table) (quer
 query_among c kinds tables query =
     of_query (λ ks. all_among ks (possible_columns tables query) ≡ true) c kinds tables query refl
     (subst (λ possible. all_among (columns_in (plan_type c (catalog_source tables) (plan_of tables query))) possible ≡ true) (same_possible tables query) (plan_among c (catalog_source tables) (stored_among c tables) (plan_of tables query)))
+
+pub query_ordered : (c : List ℕ) (kinds : List Kind) (tables : List Table) (query : Query) → list_all has_distinct_columns tables ≡ true → columns_in (plain_type c kinds tables query) ≡ in_order_of (possible_columns tables query) (columns_in (plain_type c kinds tables query))
+query_ordered c kinds tables query all =
+    of_query (λ ks. ks ≡ in_order_of (possible_columns tables query) ks) c kinds tables query (none_in_order (possible_columns tables query))
+    (subst (λ possible. columns_in (plan_type c (catalog_source tables) (plan_of tables query)) ≡ in_order_of possible (columns_in (plan_type c (catalog_source tables) (plan_of tables query)))) (same_possible tables query) (plan_ordered c (catalog_source tables) (stored_ordered c tables all) (plan_of tables query)))
 
 pub query_once : (tables : List Table) (query : Query) → list_all has_distinct_columns tables ≡ true → once (possible_columns tables query) ≡ possible_columns tables query
 query_once tables query all = subst (λ columns. once columns ≡ columns) (same_possible tables query) (plan_once (catalog_source tables) (stored_once tables all) (plan_of tables query))

@@ -14,7 +14,7 @@ ghost use Rattle.query_meaning.specs.WorkedRows.{WorkedBounds, WorkedMeanings, W
 ghost use Rattle.query_meaning.specs.declared.plan.Plan.{Plan};
 ghost use Rattle.values.specs.declared.value.Kind.{Kind};
 ghost use Rattle.values.specs.declared.value.Value.{Value};
-ghost use Rattle.relational_algebra.specs.Columns.{once, repeated};
+ghost use Rattle.relational_algebra.specs.Columns.{in_order_of, once, repeated};
 ghost use Rattle.vra_syntax.specs.Binding.{bound_query};
 ghost use Rattle.vra_syntax.specs.declared.cond.Cond.{Cond};
 ghost use Rattle.vra_syntax.specs.declared.items.Items.{Items};
@@ -46,15 +46,19 @@ pub fn column_laws()
     ensures names { (c : List ℕ) (kinds : List Kind) (tables : List Table) (query : Query) → list_all has_distinct_columns tables ≡ true → repeated (columns_in (plain_type c kinds tables query)) ≡ [] }
     // They are among the possible columns.
     ensures among { (c : List ℕ) (kinds : List Kind) (tables : List Table) (query : Query) → all_among (columns_in (plain_type c kinds tables query)) (possible_columns tables query) ≡ true }
+    // They stand in the order of the possible columns.
+    ensures ordered { (c : List ℕ) (kinds : List Kind) (tables : List Table) (query : Query) → list_all has_distinct_columns tables ≡ true → columns_in (plain_type c kinds tables query) ≡ in_order_of (possible_columns tables query) (columns_in (plain_type c kinds tables query)) }
     // Each possible column stands once.
     ensures once { (tables : List Table) (query : Query) → list_all has_distinct_columns tables ≡ true → once (possible_columns tables query) ≡ possible_columns tables query }
     // The same of plans, over any sources of which it holds.
     ensures plan_names { (c : List ℕ) (sources : ℕ → Source) (plan : Plan) → ((table : ℕ) → repeated ((sources table).columns_at c) ≡ []) → repeated (columns_in (plan_type c sources plan)) ≡ [] }
     ensures plan_among { (c : List ℕ) (sources : ℕ → Source) (plan : Plan) → ((table : ℕ) → all_among ((sources table).columns_at c) (sources table).possible ≡ true) → all_among (columns_in (plan_type c sources plan)) (plan_possible sources plan) ≡ true }
+    ensures plan_ordered { (c : List ℕ) (sources : ℕ → Source) (plan : Plan) → ((table : ℕ) → (sources table).columns_at c ≡ in_order_of (sources table).possible ((sources table).columns_at c)) → columns_in (plan_type c sources plan) ≡ in_order_of (plan_possible sources plan) (columns_in (plan_type c sources plan)) }
     ensures plan_once { (sources : ℕ → Source) (plan : Plan) → ((table : ℕ) → once (sources table).possible ≡ (sources table).possible) → once (plan_possible sources plan) ≡ plan_possible sources plan }
     // The tables of a catalogue are such sources.
     ensures stored_names { (c : List ℕ) (tables : List Table) → list_all has_distinct_columns tables ≡ true → (table : ℕ) → repeated ((catalog_source tables table).columns_at c) ≡ [] }
     ensures stored_among { (c : List ℕ) (tables : List Table) (table : ℕ) → all_among ((catalog_source tables table).columns_at c) (catalog_source tables table).possible ≡ true }
+    ensures stored_ordered { (c : List ℕ) (tables : List Table) → list_all has_distinct_columns tables ≡ true → (table : ℕ) → (catalog_source tables table).columns_at c ≡ in_order_of (catalog_source tables table).possible ((catalog_source tables table).columns_at c) }
     ensures stored_once { (tables : List Table) → list_all has_distinct_columns tables ≡ true → (table : ℕ) → once (catalog_source tables table).possible ≡ (catalog_source tables table).possible }
 {}
 

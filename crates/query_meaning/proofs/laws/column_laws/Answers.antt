@@ -1,5 +1,5 @@
-use Rattle.query_meaning.proofs.TableLaws.{stored_among, stored_names, stored_once}
-use Rattle.query_meaning.proofs.TypeLaws.{plan_among, plan_names, plan_once, query_among, query_names, query_once}
+use Rattle.query_meaning.proofs.TableLaws.{stored_among, stored_names, stored_once, stored_ordered}
+use Rattle.query_meaning.proofs.TypeLaws.{plan_among, plan_names, plan_once, plan_ordered, query_among, query_names, query_once, query_ordered}
 use Rattle.query_meaning.proofs.laws.column_laws.Goals as goal
 
 -- src/laws.rt
@@ -29,3 +29,12 @@ returns-clause-stored_among c = stored_among
 
 pub returns-clause-stored_once : goal.returns-clause-stored_once
 returns-clause-stored_once c = stored_once
+
+pub returns-clause-ordered : goal.returns-clause-ordered
+returns-clause-ordered c = query_ordered
+
+pub returns-clause-plan_ordered : goal.returns-clause-plan_ordered
+returns-clause-plan_ordered c = λ at sources p stored. plan_ordered at sources stored p
+
+pub returns-clause-stored_ordered : goal.returns-clause-stored_ordered
+returns-clause-stored_ordered c = stored_ordered
