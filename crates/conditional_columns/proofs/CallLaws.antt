@@ -21,7 +21,7 @@ use Rattle.query_meaning.specs.declared.typed.TypedColumn.{TypedColumn}
 use Rattle.query_meaning.proofs.ColumnSets.{all_itself, column_decides}
 use Rattle.conditional_columns.specs.ColumnLists.{any_holds, behind_alias, columns_cost, columns_mention, conds_cost, conds_mention, conds_of, given_under, is_some_there, like, under, with_name}
 use Rattle.conditional_columns.proofs.Connectives.{holds_True}
-use Rattle.conditional_columns.proofs.ListLaws.{alias_at, alias_headings, alias_mention, alias_weight, column_holds, columns_at-append, conds_cost_is, conds_mention_is, given_at, given_headings, given_mention, given_weight, headings-append, mention-append, name_holds, picked_cost, picked_mention, some_holds, under_at, under_cost, under_headings, under_mention}
+use Rattle.conditional_columns.proofs.ListLaws.{alias_at, alias_headings, alias_mention, alias_weight, column_holds, columns_at-append, conds_cost_is, conds_mention_is, given_at, given_headings, given_mention, given_weight, headings-append, mention-append, name_holds, picked_cost, picked_mention, some_holds, under_False, under_True, under_at, under_cost, under_headings, under_mention}
 
 -- reading
 
@@ -101,6 +101,15 @@ added_weight expr ks old new is =
     let whole = ap columns_weight is ∙ weight-append old (map (under expr) ks) in
     let more = under_cost expr ks in
     omega (arith, whole, more)
+
+pub added_always : (expr : Expr) (ks old new : List TypedColumn) → expr ≡ e.True → new ≡ old ++ map (under expr) ks → new ≡ old ++ ks
+added_always expr ks old new always is = is ∙ ap (λ (x : Expr). old ++ map (under x) ks) always ∙ ap (λ xs. old ++ xs) (under_True ks)
+
+pub added_never : (expr : Expr) (ks old new : List TypedColumn) → expr ≡ e.False → new ≡ old ++ map (under expr) ks → columns_weight new ≤ columns_weight old + columns_weight ks
+added_never expr ks old new never is =
+    let whole = ap columns_weight (is ∙ ap (λ (x : Expr). old ++ map (under x) ks) never) ∙ weight-append old (map (under e.False) ks) in
+    let less = under_False ks in
+    omega (arith, whole, less)
 
 known_behind : (i : ℕ) (old more : List TypedColumn) (b : Bool) → (columns_mention i more ≡ true → b ≡ true) → columns_mention i (old ++ more) ≡ true → (columns_mention i old || b) ≡ true
 known_behind i old more b known h = elim (or_cases (columns_mention i old) (columns_mention i more) (sym (mention-append i old more) ∙ h)) [

@@ -1,11 +1,12 @@
 -- Connectives without constants: when they hold, what they weigh and what they mention.
-use Rattle.std.proofs.Common.{◌≡◌, ◌∙◌, ℕ, ◌+◌, ◌≤◌, Bool, true, false, ◌&&◌, ◌||◌, List, refl, sym, ap, arith, if◌then◌else◌}
+use Rattle.std.proofs.Common.{◌≡◌, ◌∙◌, ℕ, ◌+◌, ◌≤◌, Bool, true, false, not, ◌&&◌, ◌||◌, List, refl, sym, ap, arith, if◌then◌else◌}
 use Rattle.feature_expr.specs.declared.expr.Expr.{Expr, fold-Expr, out-Expr, map-Expr}
 use Rattle.feature_expr.specs.declared.expr.Expr.TheFolds.{fold_out-Expr, fold-roll-Expr}
 use Rattle.feature_expr.specs.declared.expr.Expr.TheOpen.{Expr-F}
-use Rattle.feature_expr.specs.declared.expr.Expr.TheVariants.{rolls-And, rolls-False, rolls-Or, rolls-True}
+use Rattle.feature_expr.specs.declared.expr.Expr.TheViews.{out-roll-Expr}
+use Rattle.feature_expr.specs.declared.expr.Expr.TheVariants.{rolls-And, rolls-False, rolls-Not, rolls-Or, rolls-True}
 use Rattle.feature_expr.specs.declared.expr.Expr as e
-use Rattle.feature_expr.specs.Expressions.{and_of, and_left, and_right, mentions, mentions_step, or_of, or_left, or_right, weight_of, weight_step}
+use Rattle.feature_expr.specs.Expressions.{and_of, and_left, and_right, mentions, mentions_step, not_of, not_step, or_of, or_left, or_right, weight_of, weight_step}
 use Rattle.feature_expr.specs.Same.{same_expr}
 use Rattle.feature_expr.specs.SameLaws.{same_yes}
 use Rattle.feature_expr.specs.Satisfaction.{satisfies, holds_at}
@@ -93,6 +94,20 @@ either_by c l r false is = or_holds c l r
 pub either_holds : (c : List ℕ) (l r : Expr) → satisfies c (either_of l r) ≡ (satisfies c l || satisfies c r)
 either_holds c l r = either_by c l r (same_expr l r) refl
 
+holds_Not : (c : List ℕ) (l : Expr) → satisfies c (e.Not l) ≡ not (satisfies c l)
+holds_Not c l = ap (λ (x : Expr). satisfies c x) (sym (rolls-Not l)) ∙ fold-roll-Expr Bool (holds_at c) (Expr-F.Not l)
+
+not_holds_by : (c : List ℕ) (l : Expr) (x : Expr-F Expr) → out-Expr l ≡ x → satisfies c (not_step l x) ≡ not (satisfies c l)
+not_holds_by c l Expr-F.True is = rw (layer_holds c l Expr-F.True is) (holds_False c)
+not_holds_by c l Expr-F.False is = rw (layer_holds c l Expr-F.False is) (holds_True c)
+not_holds_by c l (Expr-F.Feature i) is = holds_Not c l
+not_holds_by c l (Expr-F.Not inner) is = holds_Not c l
+not_holds_by c l (Expr-F.And a b) is = holds_Not c l
+not_holds_by c l (Expr-F.Or a b) is = holds_Not c l
+
+pub not_holds : (c : List ℕ) (l : Expr) → satisfies c (not_of l) ≡ not (satisfies c l)
+not_holds c l = not_holds_by c l (out-Expr l) refl
+
 -- what they weigh
 
 pub weighs_one : (l : Expr) → 1 ≤ weight_of l
@@ -161,6 +176,20 @@ either_weighs_by l r false = or_weighs l r
 
 pub either_weighs : (l r : Expr) → weight_of (either_of l r) ≤ weight_of l + weight_of r + 1
 either_weighs l r = either_weighs_by l r (same_expr l r)
+
+weighs_Not : (l : Expr) → weight_of (e.Not l) ≡ 1 + weight_of l
+weighs_Not l = ap weight_of (sym (rolls-Not l)) ∙ fold-roll-Expr ℕ weight_step (Expr-F.Not l)
+
+not_weighs_by : (l : Expr) (x : Expr-F Expr) → weight_of (not_step l x) ≤ weight_of l + 1
+not_weighs_by l Expr-F.True = let w = weighs_False in omega (arith, w)
+not_weighs_by l Expr-F.False = let w = weighs_True in omega (arith, w)
+not_weighs_by l (Expr-F.Feature i) = let w = weighs_Not l in omega (arith, w)
+not_weighs_by l (Expr-F.Not inner) = let w = weighs_Not l in omega (arith, w)
+not_weighs_by l (Expr-F.And a b) = let w = weighs_Not l in omega (arith, w)
+not_weighs_by l (Expr-F.Or a b) = let w = weighs_Not l in omega (arith, w)
+
+pub not_weighs : (l : Expr) → weight_of (not_of l) ≤ weight_of l + 1
+not_weighs l = not_weighs_by l (out-Expr l)
 
 -- what they mention
 
@@ -233,3 +262,11 @@ module _ (i : ℕ) where
 -- a condition and the same one again
 pub either_same : (c : List ℕ) (l r : Expr) → l ≡ r → satisfies c l ≡ (satisfies c l || satisfies c r)
 either_same c l r same = or_itself (satisfies c l) ∙ ap (λ (x : Expr). satisfies c l || satisfies c x) same
+
+-- a constant on the left side
+
+pub and_True : (r : Expr) → and_of e.True r ≡ r
+and_True r = ap (and_left e.True r) (ap out-Expr (sym rolls-True) ∙ out-roll-Expr Expr-F.True)
+
+pub and_False : (r : Expr) → and_of e.False r ≡ e.False
+and_False r = ap (and_left e.False r) (ap out-Expr (sym rolls-False) ∙ out-roll-Expr Expr-F.False)

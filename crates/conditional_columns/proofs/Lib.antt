@@ -1,6 +1,9 @@
 mod CallLaws
 mod Connectives
+mod FewLaws
+mod FormLaws
 mod KeyLaws
 mod ListLaws
 mod SettleLaws
 mod StoredLaws
+mod WeightLaws

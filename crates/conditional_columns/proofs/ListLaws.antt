@@ -7,13 +7,14 @@ use Rattle.std.proofs.lemmas.List.Sums.{sum_by-append, sum_by-cons}
 use Rattle.feature_expr.specs.Expressions.{and_of, mentions, weight_of}
 use Rattle.feature_expr.specs.Satisfaction.{satisfies}
 use Rattle.feature_expr.specs.declared.expr.Expr.{Expr}
+use Rattle.feature_expr.specs.declared.expr.Expr as e
 use Rattle.values.specs.declared.column_name.ColName.{ColName}
 use Rattle.plain_relation.specs.Relations.{Column, has_name, same_name}
 use Rattle.relational_algebra.specs.Columns.{aliased, among, named, renamed, same_column}
 use Rattle.query_meaning.specs.Typing.{column_mentions, columns_at, columns_weight, heading, headings}
 use Rattle.query_meaning.specs.declared.typed.TypedColumn.{TypedColumn}
 use Rattle.conditional_columns.specs.ColumnLists.{any_holds, behind_alias, columns_cost, columns_mention, conds_cost, conds_mention, conds_of, given_under, is_some_there, like, under, with_name}
-use Rattle.conditional_columns.proofs.Connectives.{and_holds, and_mentions, and_weighs}
+use Rattle.conditional_columns.proofs.Connectives.{and_False, and_True, and_holds, and_mentions, and_weighs, weighs_False, weighs_one}
 
 -- several lists in one
 
@@ -92,6 +93,18 @@ picked_cost test (k ∷ ks) = kept (test k) (filter test ks) (picked_cost test k
     kept true rest h = let one = cost_cons k rest in let all = cost_cons k ks in omega (arith, one, all)
     kept false rest h = let all = cost_cons k ks in omega (arith, all)
 
+-- some columns weigh no more than all
+pub picked_weight : (test : TypedColumn → Bool) (ks : List TypedColumn) → columns_weight (filter test ks) ≤ columns_weight ks
+picked_weight test [] = omega arith
+picked_weight test (k ∷ ks) = kept (test k) (filter test ks) (picked_weight test ks)
+  where
+    kept : (b : Bool) (rest : List TypedColumn) → columns_weight rest ≤ columns_weight ks → columns_weight (if b then k ∷ rest else rest) ≤ columns_weight (k ∷ ks)
+    kept true rest h = let one = weight_cons k rest in let all = weight_cons k ks in omega (arith, one, all)
+    kept false rest h = let all = weight_cons k ks in omega (arith, all)
+
+pub weighs_some : (k : TypedColumn) (ks : List TypedColumn) → 1 ≤ columns_weight (k ∷ ks)
+weighs_some k ks = let one = weighs_one k.cond in let all = weight_cons k ks in omega (arith, one, all)
+
 pub picked_mention : (i : ℕ) (test : TypedColumn → Bool) (ks : List TypedColumn) → columns_mention i (filter test ks) ≡ true → columns_mention i ks ≡ true
 picked_mention i test [] h = h
 picked_mention i test (k ∷ ks) h = kept (test k) (filter test ks) (picked_mention i test ks) h
@@ -154,6 +167,26 @@ under_mention i expr (k ∷ ks) h = elim (or_cases (mentions i (and_of expr k.co
     in_rest true b d h = refl
     in_rest false true d h = refl
     in_rest false false d h = h
+
+with_cond : TypedColumn → Expr → TypedColumn
+with_cond k cond = record { name = k.name; kind = k.kind; cond = cond }
+
+-- `true` leaves a list as it is
+pub under_True : (ks : List TypedColumn) → map (under e.True) ks ≡ ks
+unfolding with_cond
+under_True [] = refl
+under_True (k ∷ ks) = ap (λ cond. with_cond k cond ∷ map (under e.True) ks) (and_True k.cond) ∙ ap (λ xs. k ∷ xs) (under_True ks)
+
+-- `false` makes no condition heavier
+pub under_False : (ks : List TypedColumn) → columns_weight (map (under e.False) ks) ≤ columns_weight ks
+under_False [] = omega arith
+under_False (k ∷ ks) =
+    let mine = weight_cons (under e.False k) (map (under e.False) ks) in
+    let theirs = weight_cons k ks in
+    let least : weight_of (and_of e.False k.cond) ≡ 1 = ap weight_of (and_False k.cond) ∙ weighs_False in
+    let one = weighs_one k.cond in
+    let rest = under_False ks in
+    omega (arith, mine, theirs, least, one, rest)
 
 -- columns of a name under another one
 

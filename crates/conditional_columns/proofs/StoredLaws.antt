@@ -1,7 +1,7 @@
 -- A stored table's columns under its condition and their own.
-use Rattle.std.proofs.Common.{◌≡◌, ◌∙◌, ℕ, ◌+◌, ◌≤◌, Bool, true, false, ◌&&◌, ◌||◌, List, [], ◌∷◌, map, Some, None, inl, inr, refl, sym, ap, arith, if◌then◌else◌}
+use Rattle.std.proofs.Common.{◌≡◌, ◌∙◌, ℕ, ◌≤◌, Bool, true, false, ◌&&◌, ◌||◌, List, [], ◌∷◌, map, Some, None, inl, inr, refl, sym, ap, arith, if◌then◌else◌}
 use Rattle.std.specs.List.{list_any, sum_by}
-use Rattle.std.proofs.lemmas.Bool.{or_cases, or_left, or_right}
+use Rattle.std.proofs.lemmas.Bool.{or_cases}
 use Rattle.std.proofs.lemmas.List.Sums.{sum_by-cons}
 use Rattle.feature_expr.specs.Expressions.{and_of, mentions, weight_of}
 use Rattle.feature_expr.specs.Satisfaction.{satisfies}
@@ -11,7 +11,7 @@ use Rattle.vschema.specs.declared.catalog.Column as catalog
 use Rattle.vschema.specs.declared.catalog.Table.{Table}
 use Rattle.query_meaning.specs.Bounds.{column_weight_in, table_column_weight}
 use Rattle.query_meaning.specs.Sources.{table_column, table_source}
-use Rattle.query_meaning.specs.Typing.{columns_at, columns_weight, heading, headings, stored_column, table_mentions}
+use Rattle.query_meaning.specs.Typing.{columns_at, columns_weight, headings, stored_column, table_mentions}
 use Rattle.query_meaning.specs.declared.typed.TypedColumn.{TypedColumn}
 use Rattle.conditional_columns.specs.ColumnLists.{columns_mention}
 use Rattle.conditional_columns.proofs.Connectives.{and_holds, and_mentions, and_weighs}

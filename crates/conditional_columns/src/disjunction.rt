@@ -1,4 +1,4 @@
-ghost use Rattle.std.specs.Prelude.{◌≡◌, ◌≤◌, ◌+◌, ◌||◌, ℕ, max, List as Items, IsTrue, IfOk};
+ghost use Rattle.std.specs.Prelude.{◌≡◌, ◌≤◌, ◌+◌, ◌||◌, [], ℕ, max, List as Items, IsTrue, IfOk};
 ghost use Rattle.feature_expr.specs.Expressions.{mentions, weight_of};
 ghost use Rattle.feature_expr.specs.Satisfaction.{satisfies};
 ghost use Rattle.conditional_columns.specs.ColumnLists.{any_holds, conds_cost, conds_mention, either_of};
@@ -26,6 +26,7 @@ pub fn either(alloc: Global, left: Expr, right: Expr) -> Result<Expr, Memory>
 pub fn one_of(alloc: Global, conds: Vec<Expr>) -> Result<Expr, Memory>
     ensures holds { IfOk result (λ it. (c : Items ℕ) → satisfies c it ≡ any_holds c conds.items) }
     ensures weight { IfOk result (λ it. weight_of it + 1 ≤ max 2 (conds_cost conds.items)) }
+    ensures none { conds.items ≡ [] → IfOk result (λ it. it ≡ Expr.False) }
     ensures known { IfOk result (λ it. (i : ℕ) → IsTrue (mentions i it) → IsTrue (conds_mention i conds.items)) }
 {
     let mut conds = conds;

@@ -2,6 +2,7 @@
 #![tactic(auto)]
 
 mod disjunction;
+mod laws;
 mod put;
 mod read;
 mod same;
@@ -9,6 +10,7 @@ mod settling;
 mod stored;
 
 pub use disjunction::either;
+pub use laws::form_laws;
 pub use put::{add_named, add_where, behind};
 pub use read::{all_in, any_in, cond_in, name_in};
 pub use same::are_same;

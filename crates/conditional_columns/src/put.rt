@@ -1,7 +1,7 @@
 ghost use Rattle.std.specs.Prelude.{◌≡◌, ◌≤◌, ◌+◌, ◌*◌, ◌||◌, ◌++◌, [], ℕ, map, length, List as Items, IsTrue, IfOk, OnOk, if◌then◌else◌};
 ghost use Rattle.feature_expr.specs.Expressions.{and_of, mentions, weight_of};
 ghost use Rattle.feature_expr.specs.Satisfaction.{satisfies};
-ghost use Rattle.relational_algebra.specs.Columns.{aliased, named, renamed};
+ghost use Rattle.relational_algebra.specs.Columns.{aliased, named, once, renamed};
 ghost use Rattle.query_meaning.specs.Typing.{columns_at, columns_weight, headings};
 ghost use Rattle.conditional_columns.specs.ColumnLists.{behind_alias, columns_cost, columns_mention, given_under, under, with_name};
 
@@ -22,6 +22,8 @@ pub fn add_where(
     ensures there { OnOk result ((c : Items ℕ) → columns_at c out.new.items ≡ columns_at c out.old.items ++ (if satisfies c expr.now then columns_at c columns.now else [])) }
     ensures headings { OnOk result (headings out.new.items ≡ headings out.old.items ++ headings columns.now) }
     ensures weight { OnOk result (columns_weight out.new.items ≤ columns_weight out.old.items + (columns_cost columns.now + length columns.now * weight_of expr.now)) }
+    ensures always { expr.now ≡ Expr.True → OnOk result (out.new.items ≡ out.old.items ++ columns.now) }
+    ensures never { expr.now ≡ Expr.False → OnOk result (columns_weight out.new.items ≤ columns_weight out.old.items + columns_weight columns.now) }
     ensures known { OnOk result ((i : ℕ) → IsTrue (columns_mention i out.new.items) → IsTrue (columns_mention i out.old.items || (mentions i expr.now || columns_mention i columns.now))) }
 {
     put_under(alloc, expr, columns, out)?;
@@ -78,6 +80,7 @@ pub fn add_named(
     ensures there { OnOk result ((c : Items ℕ) → columns_at c out.new.items ≡ columns_at c out.old.items ++ (if satisfies c expr.now then map (renamed given.now) (named name.now (columns_at c columns.now)) else [])) }
     ensures headings { OnOk result (headings out.new.items ≡ headings out.old.items ++ map (renamed given.now) (named name.now (headings columns.now))) }
     ensures weight { OnOk result (columns_weight out.new.items ≤ columns_weight out.old.items + (columns_cost (with_name name.now columns.now) + length (with_name name.now columns.now) * weight_of expr.now)) }
+    ensures few { once (headings columns.now) ≡ headings columns.now → length (with_name name.now columns.now) ≤ 3 }
     ensures known { OnOk result ((i : ℕ) → IsTrue (columns_mention i out.new.items) → IsTrue (columns_mention i out.old.items || (mentions i expr.now || columns_mention i columns.now))) }
 {
     put_given(alloc, expr, name, given, columns, out)?;

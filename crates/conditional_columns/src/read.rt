@@ -18,6 +18,7 @@ use values::{ColName, Memory, TryCopy};
 pub fn any_in(alloc: Global, columns: &[TypedColumn]) -> Result<Expr, Memory>
     ensures holds { IfOk result (λ it. (c : Items ℕ) → satisfies c it ≡ is_some_there (columns_at c columns.now)) }
     ensures weight { IfOk result (λ it. weight_of it + 1 ≤ max 2 (columns_cost columns.now)) }
+    ensures none { columns.now ≡ [] → IfOk result (λ it. it ≡ Expr.False) }
     ensures known { IfOk result (λ it. (i : ℕ) → IsTrue (mentions i it) → IsTrue (columns_mention i columns.now)) }
 {
     let conds = all_conds(alloc, columns)?;

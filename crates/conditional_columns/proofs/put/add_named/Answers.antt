@@ -1,4 +1,5 @@
 use Rattle.conditional_columns.proofs.CallLaws.{named_headings, named_known, named_there, named_weight}
+use Rattle.conditional_columns.proofs.FewLaws.{three_at_most}
 use Rattle.conditional_columns.proofs.put.add_named.Goals as goal
 
 -- src/put.rt
@@ -13,3 +14,9 @@ returns-clause-weight c = named_weight c.args.given.now _ _ _ _ c.in_ok-put_give
 
 pub returns-clause-known : goal.returns-clause-known
 returns-clause-known c = λ i. named_known i c.args.name.now c.args.given.now _ _ _ _ c.in_ok-put_given.ensures
+
+pub returns-clause-few : goal.returns-clause-few
+returns-clause-few c = three_at_most c.args.name.now c.args.columns.now
+
+pub returns-in_err-put_given-clause-few : goal.returns-in_err-put_given-clause-few
+returns-in_err-put_given-clause-few c = three_at_most c.args.name.now c.args.columns.now
