@@ -6,4 +6,5 @@ mod KeyLaws
 mod ListLaws
 mod SettleLaws
 mod StoredLaws
+mod WaysLaws
 mod WeightLaws

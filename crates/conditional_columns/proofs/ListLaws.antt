@@ -105,6 +105,11 @@ picked_weight test (k ∷ ks) = kept (test k) (filter test ks) (picked_weight te
 pub weighs_some : (k : TypedColumn) (ks : List TypedColumn) → 1 ≤ columns_weight (k ∷ ks)
 weighs_some k ks = let one = weighs_one k.cond in let all = weight_cons k ks in omega (arith, one, all)
 
+-- a list weighs at least one for each column
+pub weighs_each : (ks : List TypedColumn) → length ks ≤ columns_weight ks
+weighs_each [] = omega arith
+weighs_each (k ∷ ks) = let one = weighs_one k.cond in let all = weight_cons k ks in let rest = weighs_each ks in omega (arith, one, all, rest)
+
 pub picked_mention : (i : ℕ) (test : TypedColumn → Bool) (ks : List TypedColumn) → columns_mention i (filter test ks) ≡ true → columns_mention i ks ≡ true
 picked_mention i test [] h = h
 picked_mention i test (k ∷ ks) h = kept (test k) (filter test ks) (picked_mention i test ks) h

@@ -1,9 +1,9 @@
 -- Settled columns: each name and kind once, there where one of its columns is, and no heavier.
-use Rattle.std.proofs.Common.{◌≡◌, ◌∙◌, ℕ, ◌+◌, ◌≤◌, Bool, true, false, ◌&&◌, ◌||◌, List, [], ◌∷◌, ◌++◌, inl, inr, refl, sym, ap, subst, arith, append_assoc, if◌then◌else◌}
+use Rattle.std.proofs.Common.{◌≡◌, ◌∙◌, ℕ, ◌+◌, ◌≤◌, Bool, true, false, ◌&&◌, ◌||◌, List, [], ◌∷◌, ◌++◌, inl, inr, refl, sym, ap, subst, arith, append_assoc, if◌then◌else◌, length}
 use Rattle.std.specs.Prelude.{fold}
 use Rattle.std.specs.List.{AllByRecursion}
 use Rattle.std.proofs.lemmas.Bool.{or_cases, or_left, or_right, or_parts}
-use Rattle.std.proofs.lemmas.List.{append-nil}
+use Rattle.std.proofs.lemmas.List.{append-nil, length-map}
 use Rattle.std.proofs.lemmas.List.Folds.{list_any-append}
 use Rattle.feature_expr.specs.Expressions.{mentions, weight_of}
 use Rattle.feature_expr.specs.Satisfaction.{satisfies}
@@ -238,3 +238,7 @@ fold_mention i (k ∷ all) v h = elim (or_cases (columns_mention i (put_column v
 
 pub settled_mention : (i : ℕ) (all : List TypedColumn) → columns_mention i (settled all) ≡ true → columns_mention i all ≡ true
 settled_mention i all h = fold_mention i all [] h
+
+-- a list in which each name and kind stands once has as many columns when it is settled
+pub settled_length : (all : List TypedColumn) → once (headings all) ≡ headings all → length (settled all) ≡ length all
+settled_length all each = sym (length-map (settled all) heading) ∙ ap length (settled_headings all ∙ each) ∙ length-map all heading

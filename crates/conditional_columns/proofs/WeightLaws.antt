@@ -1,5 +1,6 @@
 -- The lists that the forms of a query make weigh no more than the forms' bounds.
-use Rattle.std.proofs.Common.{◌≡◌, ℕ, ◌+◌, ◌*◌, ◌≤◌, max, List, [], ◌∷◌, ◌++◌, map, length, refl, sym, subst, arith}
+use Rattle.std.proofs.Common.{◌≡◌, ℕ, ◌+◌, ◌*◌, ◌≤◌, max, List, [], ◌∷◌, ◌++◌, map, length, refl, sym, subst, arith, true, false, Bool, ap, ◌∙◌, if◌then◌else◌}
+use Rattle.std.specs.Prelude.{◌==◌}
 use Rattle.std.specs.List.{sum_by}
 use Rattle.std.proofs.lemmas.List.{length-map}
 use Rattle.std.proofs.lemmas.List.Sums.{sum_by-cons}
@@ -8,17 +9,21 @@ use Rattle.feature_expr.specs.Expressions.{not_of, weight_of}
 use Rattle.feature_expr.specs.declared.expr.Expr.{Expr, out-Expr}
 use Rattle.feature_expr.specs.declared.expr.Expr as e
 use Rattle.vra_syntax.specs.declared.items.Item.{Item}
-use Rattle.relational_algebra.specs.Columns.{once}
+use Rattle.relational_algebra.specs.Columns.{aliased, once, prefixed}
 use Rattle.relational_algebra.specs.Items.{given}
-use Rattle.query_meaning.specs.Bounds.{Size, chosen_size, cond_or_true, item_weight, joined_column_weight, united_size}
+use Rattle.query_meaning.specs.Bounds.{Size, aliased_size, chosen_size, cond_or_true, item_weight, joined_column_weight, listed_size, names_in, united_size, ways}
 use Rattle.query_meaning.specs.Typing.{columns_weight, heading, headings}
 use Rattle.query_meaning.specs.declared.typed.TypedColumn.{TypedColumn}
-use Rattle.conditional_columns.specs.ColumnLists.{columns_cost, given_under, has_the_name, settled, under, with_name}
+use Rattle.query_meaning.proofs.ColumnSets.{distinct_from_once, once_distinct}
+use Rattle.std.proofs.lemmas.Bool.Decides.{Decides-eqb}
+use Rattle.conditional_columns.specs.ColumnLists.{behind_alias, columns_cost, given_under, has_the_name, settled, under, with_name}
 use Rattle.conditional_columns.specs.FormLists.{chosen_list, item_columns, joined_list, kept_list, united_list}
 use Rattle.conditional_columns.proofs.Connectives.{not_weighs, weighs_one}
 use Rattle.conditional_columns.proofs.FewLaws.{three_at_most}
-use Rattle.conditional_columns.proofs.ListLaws.{cost-append, given_weight, picked_weight, under_cost, under_False, weighs_some}
-use Rattle.conditional_columns.proofs.SettleLaws.{settled_cost}
+use Rattle.conditional_columns.proofs.ListLaws as lists
+use Rattle.conditional_columns.proofs.ListLaws.{alias_headings, cost-append, given_weight, picked_weight, under_False, under_cost, weighs_each, weighs_some}
+use Rattle.conditional_columns.proofs.WaysLaws.{some_names, still_distinct}
+use Rattle.conditional_columns.proofs.SettleLaws.{settled_cost, settled_length}
 
 as_many : (ks : List TypedColumn) → length (headings ks) ≡ length ks
 as_many ks = length-map ks heading
@@ -107,3 +112,40 @@ items_cost k ks (item ∷ items) each within =
 
 pub select_weight : (k : ℕ) (ks : List TypedColumn) (items : List Item) → once (headings ks) ≡ headings ks → columns_weight ks ≤ k → columns_weight (settled (kept_list ks items)) ≤ sum_by (item_weight k) items
 select_weight k ks items each within = let cost = settled_cost (kept_list ks items) in let most = items_cost k ks items each within in omega (arith, cost, most)
+
+-- an alias
+
+alias_length : (alias : List ℕ) (ks : List TypedColumn) → length (map (behind_alias alias) ks) ≡ length ks
+alias_length alias ks = length-map ks (behind_alias alias)
+
+alias_same : (alias : List ℕ) (ks : List TypedColumn) → once (aliased alias (headings ks)) ≡ aliased alias (headings ks) → columns_weight (settled (map (behind_alias alias) ks)) ≤ columns_weight ks
+alias_same alias ks each =
+    let list = map (behind_alias alias) ks in
+    let cost = settled_cost list in
+    let weight = lists.alias_weight alias ks in
+    let count = settled_length list (ap once (alias_headings alias ks) ∙ each ∙ sym (alias_headings alias ks)) in
+    omega (arith, cost, weight, count)
+
+alias_many : (alias : List ℕ) (k : ℕ) (ks : List TypedColumn) → columns_weight ks ≤ k → columns_weight (settled (map (behind_alias alias) ks)) ≤ length (map (prefixed alias) (names_in (headings ks))) * (12 + 2 * k)
+alias_many alias k [] within = omega arith
+alias_many alias k (x ∷ ks) within =
+    let all = x ∷ ks in
+    let cost = settled_cost (map (behind_alias alias) all) in
+    let weight = lists.alias_weight alias all in
+    let count = alias_length alias all in
+    let each = weighs_each all in
+    let some = some_names (heading x) (headings ks) in
+    let same = length-map (names_in (headings all)) (prefixed alias) in
+    let times = mul-le 1 (12 + 2 * k) (length (map (prefixed alias) (names_in (headings all)))) (12 + 2 * k) (omega (arith, some, same)) (omega arith) in
+    omega (arith, cost, weight, count, each, times, within)
+
+alias_by : (b : Bool) (alias : List ℕ) (x : Size) (ks : List TypedColumn) → (ways (map (prefixed alias) (names_in (headings ks))) == 1) ≡ b → once (headings ks) ≡ headings ks → columns_weight ks ≤ x.column_weight
+    → columns_weight (settled (map (behind_alias alias) ks)) ≤ (if b then x else listed_size (map (prefixed alias) (names_in (headings ks))) (length (map (prefixed alias) (names_in (headings ks))) * (12 + 2 * x.column_weight)) x).column_weight
+alias_by true alias x ks is each within =
+    let one : ways (map (prefixed alias) (names_in (headings ks))) ≡ 1 = (Decides-eqb (ways (map (prefixed alias) (names_in (headings ks)))) 1).0 is in
+    let same = alias_same alias ks (once_distinct (aliased alias (headings ks)) (still_distinct alias (headings ks) (distinct_from_once (headings ks) each) one)) in
+    omega (arith, same, within)
+alias_by false alias x ks is each within = alias_many alias x.column_weight ks within
+
+pub alias_weight : (alias : List ℕ) (x : Size) (ks : List TypedColumn) → once (headings ks) ≡ headings ks → columns_weight ks ≤ x.column_weight → columns_weight (settled (map (behind_alias alias) ks)) ≤ (aliased_size (headings ks) alias x).column_weight
+alias_weight alias x ks each within = alias_by (ways (map (prefixed alias) (names_in (headings ks))) == 1) alias x ks refl each within

@@ -8,7 +8,7 @@ ghost use Rattle.relational_algebra.specs.Columns.{aliased, both_sides, in_order
 ghost use Rattle.relational_algebra.specs.Items.{kept_in_order, possible_kept};
 ghost use Rattle.vra_syntax.specs.declared.items.Item.{Item};
 ghost use Rattle.vra_syntax.specs.declared.items.Items.TheVariants.{Listed};
-ghost use Rattle.query_meaning.specs.Bounds.{Size, chosen_size, item_weight, joined_column_weight, united_size};
+ghost use Rattle.query_meaning.specs.Bounds.{Size, aliased_size, chosen_size, item_weight, joined_column_weight, united_size};
 ghost use Rattle.query_meaning.specs.Typing.{columns_at, columns_weight, headings};
 ghost use Rattle.query_meaning.specs.declared.typed.TypedColumn.{TypedColumn};
 ghost use Rattle.conditional_columns.specs.ColumnLists.{behind_alias, columns_cost, is_some_there, settled};
@@ -31,6 +31,7 @@ pub fn form_laws()
     // Where the parts' lists weigh no more than the parts' bounds, it weighs no more than the form's.
     ensures select_weight { (k : ℕ) (ks : List TypedColumn) (items : List Item) → once (headings ks) ≡ headings ks → columns_weight ks ≤ k → columns_weight (settled (kept_list ks items)) ≤ sum_by (item_weight k) items }
     ensures join_weight { (l r : Size) (any_left any_right : Expr) (ls rs : List TypedColumn) → columns_weight ls ≤ l.column_weight → columns_weight rs ≤ r.column_weight → weight_of any_left + 1 ≤ max 2 (columns_cost ls) → (ls ≡ [] → any_left ≡ e.False) → weight_of any_right + 1 ≤ max 2 (columns_cost rs) → (rs ≡ [] → any_right ≡ e.False) → columns_weight (settled (joined_list any_left any_right ls rs)) ≤ joined_column_weight (headings ls) (headings rs) l r }
+    ensures alias_weight { (alias : List ℕ) (x : Size) (ks : List TypedColumn) → once (headings ks) ≡ headings ks → columns_weight ks ≤ x.column_weight → columns_weight (settled (map (behind_alias alias) ks)) ≤ (aliased_size (headings ks) alias x).column_weight }
     ensures union_weight { (l r : Size) (ls rs : List TypedColumn) → columns_weight ls ≤ l.column_weight → columns_weight rs ≤ r.column_weight → columns_weight (settled (united_list ls rs)) ≤ (united_size (headings ls) (headings rs) l r).column_weight }
     ensures choice_weight { (expr : Expr) (l r : Size) (ls rs : List TypedColumn) → columns_weight ls ≤ l.column_weight → columns_weight rs ≤ r.column_weight → columns_weight (settled (chosen_list expr ls rs)) ≤ (chosen_size (headings ls) (headings rs) expr l r).column_weight }
 {}

@@ -1,5 +1,5 @@
 use Rattle.conditional_columns.proofs.FormLaws.{alias_possible, alias_there, choice_possible, choice_there, join_possible, join_there, select_possible, select_there, union_possible, union_there}
-use Rattle.conditional_columns.proofs.WeightLaws.{choice_weight, join_weight, select_weight, union_weight}
+use Rattle.conditional_columns.proofs.WeightLaws.{alias_weight, choice_weight, join_weight, select_weight, union_weight}
 use Rattle.conditional_columns.proofs.laws.form_laws.Goals as goal
 
 -- src/laws.rt
@@ -44,3 +44,6 @@ returns-clause-union_weight c = union_weight
 
 pub returns-clause-choice_weight : goal.returns-clause-choice_weight
 returns-clause-choice_weight c = choice_weight
+
+pub returns-clause-alias_weight : goal.returns-clause-alias_weight
+returns-clause-alias_weight c = alias_weight
