@@ -4,6 +4,7 @@ mod FewLaws
 mod FormLaws
 mod KeyLaws
 mod ListLaws
+mod RepeatLaws
 mod SettleLaws
 mod StoredLaws
 mod WaysLaws

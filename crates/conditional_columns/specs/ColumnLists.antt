@@ -82,3 +82,9 @@ put_column (one ∷ columns) column = if same_column (heading column) (heading o
 -- each name and kind once, where it stands first, under the disjunction of its conditions
 abbrev pub settled : List TypedColumn → List TypedColumn
 settled columns = fold put_column [] columns
+
+-- the names of the columns whose condition here holds in the variant
+abbrev pub names_where : List ℕ → List TypedColumn → List Expr → List ColName
+names_where c [] conds = []
+names_where c (column ∷ columns) [] = []
+names_where c (column ∷ columns) (cond ∷ conds) = if satisfies c cond then column.name ∷ names_where c columns conds else names_where c columns conds
