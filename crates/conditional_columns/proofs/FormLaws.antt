@@ -1,17 +1,19 @@
 -- The lists that the forms of a query make, settled, are in each variant the columns of the forms' plain types.
-use Rattle.std.proofs.Common.{◌≡◌, ◌∙◌, ℕ, Bool, true, false, not, List, [], ◌∷◌, ◌++◌, map, Option, Some, None, refl, ap, if◌then◌else◌}
+use Rattle.std.proofs.Common.{◌≡◌, ◌∙◌, ℕ, Bool, true, false, not, List, [], ◌∷◌, ◌++◌, map, Option, Some, None, refl, ap, if◌then◌else◌, filter}
 use Rattle.std.specs.List.{flat_map}
+use Rattle.std.proofs.lemmas.Bool.{or_from, or_parts}
 use Rattle.feature_expr.specs.Expressions.{not_of}
 use Rattle.feature_expr.specs.Satisfaction.{satisfies}
 use Rattle.feature_expr.specs.declared.expr.Expr.{Expr}
 use Rattle.plain_relation.specs.Relations.{Column}
 use Rattle.vra_syntax.specs.declared.items.Item.{Item}
 use Rattle.vra_syntax.specs.declared.items.Items.TheVariants.{Listed}
-use Rattle.relational_algebra.specs.Columns.{aliased, both_sides, in_order_of, merged, named, once, renamed}
+use Rattle.relational_algebra.specs.Columns.{aliased, among, both_sides, in_order_of, merged, named, once, renamed, same_column}
 use Rattle.relational_algebra.specs.Items.{given, is_kept, kept, kept_by, kept_in_order, picked, possible_kept}
 use Rattle.query_meaning.specs.Bounds.{cond_or_true}
-use Rattle.query_meaning.specs.Typing.{columns_at, headings}
+use Rattle.query_meaning.specs.Typing.{columns_at, heading, headings}
 use Rattle.query_meaning.specs.declared.typed.TypedColumn.{TypedColumn}
+use Rattle.query_meaning.proofs.ColumnSets.{distinct, distinct_from_once, distinct_parts, order_cons, same_itself}
 use Rattle.conditional_columns.specs.ColumnLists.{behind_alias, is_some_there, settled, under}
 use Rattle.conditional_columns.specs.FormLists.{chosen_list, item_columns, joined_list, kept_list, united_list}
 use Rattle.conditional_columns.proofs.Connectives.{holds_True, not_holds}
@@ -109,3 +111,25 @@ alias_possible alias ks = settled_headings (map (behind_alias alias) ks) ∙ ap 
 
 pub alias_there : (c : List ℕ) (alias : List ℕ) (ks : List TypedColumn) → columns_at c (settled (map (behind_alias alias) ks)) ≡ in_order_of (once (aliased alias (headings ks))) (aliased alias (columns_at c ks))
 alias_there c alias ks = settled_as c (map (behind_alias alias) ks) (once (aliased alias (headings ks))) (aliased alias (columns_at c ks)) (ap once (alias_headings alias ks)) (alias_at c alias ks)
+
+-- what is left of a list
+
+left_among : (test : TypedColumn → Bool) (ks : List TypedColumn) (x : Column) → among x (headings ks) ≡ false → among x (headings (filter test ks)) ≡ false
+left_among test [] x new = refl
+left_among test (k ∷ ks) x new = let apart = or_parts (same_column x (heading k)) (among x (headings ks)) new in kept (test k) apart.0 (left_among test ks x apart.1)
+  where
+    kept : (b : Bool) → same_column x (heading k) ≡ false → among x (headings (filter test ks)) ≡ false → among x (headings (if b then k ∷ filter test ks else filter test ks)) ≡ false
+    kept true other rest = or_from (same_column x (heading k)) (among x (headings (filter test ks))) other rest
+    kept false other rest = rest
+
+left_ordered : (test : TypedColumn → Bool) (ks : List TypedColumn) → distinct (headings ks) ≡ true → headings (filter test ks) ≡ in_order_of (headings ks) (headings (filter test ks))
+left_ordered test [] d = refl
+left_ordered test (k ∷ ks) d = let parts = distinct_parts (heading k) (headings ks) d in kept (test k) parts.0 (left_among test ks (heading k) parts.0) (left_ordered test ks parts.1)
+  where
+    kept : (b : Bool) → among (heading k) (headings ks) ≡ false → among (heading k) (headings (filter test ks)) ≡ false → headings (filter test ks) ≡ in_order_of (headings ks) (headings (filter test ks))
+        → headings (if b then k ∷ filter test ks else filter test ks) ≡ in_order_of (heading k ∷ headings ks) (headings (if b then k ∷ filter test ks else filter test ks))
+    kept true new left rest = rw (same_itself (heading k)) (ap (λ hs. heading k ∷ hs) (rest ∙ order_cons (heading k) (headings ks) (headings (filter test ks)) new))
+    kept false new left rest = rw (left) rest
+
+pub left_in_order : (test : TypedColumn → Bool) (ks : List TypedColumn) → once (headings ks) ≡ headings ks → headings (filter test ks) ≡ in_order_of (headings ks) (headings (filter test ks))
+left_in_order test ks each = left_ordered test ks (distinct_from_once (headings ks) each)

@@ -1,4 +1,4 @@
-ghost use Rattle.std.specs.Prelude.{◌≡◌, ◌≤◌, ◌+◌, ◌++◌, [], ℕ, List, map, max, if◌then◌else◌};
+ghost use Rattle.std.specs.Prelude.{◌≡◌, ◌≤◌, ◌+◌, ◌++◌, [], ℕ, Bool, List, filter, map, max, if◌then◌else◌};
 ghost use Rattle.std.specs.List.{sum_by};
 ghost use Rattle.feature_expr.specs.Expressions.{weight_of};
 ghost use Rattle.feature_expr.specs.Satisfaction.{satisfies};
@@ -28,6 +28,8 @@ pub fn form_laws()
     ensures union_there { (c : List ℕ) (ls rs : List TypedColumn) → columns_at c (settled (united_list ls rs)) ≡ in_order_of (merged (headings ls) (headings rs)) (columns_at c ls ++ columns_at c rs) }
     ensures choice_there { (c : List ℕ) (expr : Expr) (ls rs : List TypedColumn) → columns_at c (settled (chosen_list expr ls rs)) ≡ in_order_of (merged (headings ls) (headings rs)) (if satisfies c expr then columns_at c ls else columns_at c rs) }
     ensures alias_there { (c : List ℕ) (alias : List ℕ) (ks : List TypedColumn) → columns_at c (settled (map (behind_alias alias) ks)) ≡ in_order_of (once (aliased alias (headings ks))) (aliased alias (columns_at c ks)) }
+    // What is left of a list in which each name and kind stands once, stands in its order.
+    ensures left_in_order { (test : TypedColumn → Bool) (ks : List TypedColumn) → once (headings ks) ≡ headings ks → headings (filter test ks) ≡ in_order_of (headings ks) (headings (filter test ks)) }
     // Where the parts' lists weigh no more than the parts' bounds, it weighs no more than the form's.
     ensures select_weight { (k : ℕ) (ks : List TypedColumn) (items : List Item) → once (headings ks) ≡ headings ks → columns_weight ks ≤ k → columns_weight (settled (kept_list ks items)) ≤ sum_by (item_weight k) items }
     ensures join_weight { (l r : Size) (any_left any_right : Expr) (ls rs : List TypedColumn) → columns_weight ls ≤ l.column_weight → columns_weight rs ≤ r.column_weight → weight_of any_left + 1 ≤ max 2 (columns_cost ls) → (ls ≡ [] → any_left ≡ e.False) → weight_of any_right + 1 ≤ max 2 (columns_cost rs) → (rs ≡ [] → any_right ≡ e.False) → columns_weight (settled (joined_list any_left any_right ls rs)) ≤ joined_column_weight (headings ls) (headings rs) l r }

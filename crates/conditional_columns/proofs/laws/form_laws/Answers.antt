@@ -1,4 +1,4 @@
-use Rattle.conditional_columns.proofs.FormLaws.{alias_possible, alias_there, choice_possible, choice_there, join_possible, join_there, select_possible, select_there, union_possible, union_there}
+use Rattle.conditional_columns.proofs.FormLaws.{alias_possible, alias_there, choice_possible, choice_there, join_possible, join_there, left_in_order, select_possible, select_there, union_possible, union_there}
 use Rattle.conditional_columns.proofs.WeightLaws.{alias_weight, choice_weight, join_weight, select_weight, union_weight}
 use Rattle.conditional_columns.proofs.laws.form_laws.Goals as goal
 
@@ -47,3 +47,6 @@ returns-clause-choice_weight c = choice_weight
 
 pub returns-clause-alias_weight : goal.returns-clause-alias_weight
 returns-clause-alias_weight c = alias_weight
+
+pub returns-clause-left_in_order : goal.returns-clause-left_in_order
+returns-clause-left_in_order c = left_in_order
