@@ -1,2 +1,9 @@
+mod ColumnLaws
+mod ItemLaws
+mod NameStepLaws
 mod NumberLaws
+mod OnceLaws
+mod OperandLaws
+mod PartLaws
 mod StepLaws
+mod WaitingLaws

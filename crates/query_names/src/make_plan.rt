@@ -48,7 +48,12 @@ pub fn plan_of(alloc: Global, tables: &TableNames<'_>, query: &Query) -> Result<
             Query::Choice(expr, left, right) => {
                 let expr = expr.copy(alloc)?;
                 let right = plan_of(alloc, tables, right.get())?;
-                put_step(&mut steps, PlanStep::Choose(expr, right), left.get(), tables)?;
+                put_step(
+                    &mut steps,
+                    PlanStep::Choose(expr, right),
+                    left.get(),
+                    tables,
+                )?;
                 at = left.get();
             }
             Query::Empty => return rebuilt(alloc, Plan::Nothing, steps),
