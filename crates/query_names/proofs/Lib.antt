@@ -1,3 +1,4 @@
+mod CaseLaws
 mod ColumnLaws
 mod ItemLaws
 mod NameStepLaws

@@ -1,5 +1,6 @@
 pub mod Findings
 pub mod Headings
+pub mod NameCases
 pub mod NameSteps
 pub mod Once
 pub mod Parts
