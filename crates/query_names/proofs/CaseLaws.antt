@@ -1,9 +1,9 @@
 -- The case of the names that is shown is one that holds, and if none is shown none does.
 use Rattle.std.proofs.Common.{◌≡◌, Bool, true, false, List, [], ◌∷◌, ◌++◌, Option, Some, None, slice_get, refl, sym, ◌∙◌, ap, subst, inl, inr, ◌⊎◌}
 use Rattle.std.specs.List.{find}
-use Rattle.std.specs.Option.{option_or, option_map}
+use Rattle.std.specs.Option.{option_or}
 use Rattle.query_meaning.specs.Cases.{Case, IsOneOf, case_of}
-use Rattle.query_meaning.specs.Names.{Named, names_of, name_cases, too_wide}
+use Rattle.query_meaning.specs.Names.{Named, names_of}
 use Rattle.query_meaning.specs.Parameters.{without_kind}
 use Rattle.query_meaning.specs.declared.ill.TypeRefused.{TypeRefused}
 use Rattle.query_meaning.specs.declared.ill.TypeRefused.TheVariants as refused

@@ -6,5 +6,6 @@ mod NumberLaws
 mod OnceLaws
 mod OperandLaws
 mod PartLaws
+mod ScanLaws
 mod StepLaws
 mod WaitingLaws

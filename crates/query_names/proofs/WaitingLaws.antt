@@ -1,23 +1,26 @@
--- Conditions that wait to be read: what one more of them, put last, adds.
-use Rattle.std.proofs.Common.{◌≡◌, ◌+◌, List, [], ◌∷◌, ◌++◌, refl, sym, ◌∙◌, ap, append_assoc, arith}
+-- Conditions, and plans, that wait to be read: what one more of them, put last, adds.
+use Rattle.std.proofs.Common.{◌≡◌, ℕ, ◌+◌, List, [], ◌∷◌, ◌++◌, refl, sym, ◌∙◌, ap, append_assoc, arith}
 use Rattle.plain_relation.specs.Relations.{Column}
 use Rattle.query_meaning.specs.Cases.{Case}
 use Rattle.query_meaning.specs.Names.{unknown_in_cond}
 use Rattle.query_meaning.specs.Parameters.{Occurrence, occurrences}
 use Rattle.std.specs.Borrow.{Bor}
+use Rattle.query_meaning.specs.Plans.{scans}
+use Rattle.query_meaning.specs.declared.plan.Plan.{Plan}
+use Rattle.query_names.specs.WaitingPlans.{plans, plan_nodes, waiting_scans, waiting_plan_nodes}
 use Rattle.query_names.specs.Waiting.{conds, waiting_unknown, waiting_parameters, nodes, waiting_nodes}
 use Rattle.std.proofs.lemmas.List.{append-nil, map-append}
 use Rattle.vra_syntax.specs.declared.cond.Cond.{Cond}
 
 -- a list of lists that is read from its end
-module _ {A : Type 0} (f : Cond → List A) where
-  abbrev pub from_end : List Cond → List A
+module _ {C A : Type 0} (f : C → List A) where
+  abbrev pub from_end : List C → List A
   from_end [] = []
-  from_end (cond ∷ conds) = from_end conds ++ f cond
+  from_end (one ∷ more) = from_end more ++ f one
 
-  pub from_end_push : (conds : List Cond) (cond : Cond) → from_end (conds ++ cond ∷ []) ≡ f cond ++ from_end conds
-  from_end_push [] cond = sym (append-nil (f cond))
-  from_end_push (other ∷ conds) cond = ap (λ (xs : List A). xs ++ f other) (from_end_push conds cond) ∙ append_assoc (f cond) (from_end conds) (f other)
+  pub from_end_push : (more : List C) (one : C) → from_end (more ++ one ∷ []) ≡ f one ++ from_end more
+  from_end_push [] one = sym (append-nil (f one))
+  from_end_push (other ∷ more) one = ap (λ (xs : List A). xs ++ f other) (from_end_push more one) ∙ append_assoc (f one) (from_end more) (f other)
 
 same_unknown : (columns : List Column) (conds : List Cond) → waiting_unknown columns conds ≡ from_end (unknown_in_cond columns) conds
 same_unknown columns [] = refl
@@ -59,3 +62,31 @@ both_parameters columns waiting left right = one_parameters columns (waiting ++ 
 
 pub both_nodes : (waiting : List (Bor Cond)) (left right : Bor Cond) → waiting_nodes (conds ((waiting ++ right ∷ []) ++ left ∷ [])) ≡ waiting_nodes (conds waiting) + nodes left.now + nodes right.now
 both_nodes waiting left right = one_nodes (waiting ++ right ∷ []) left ∙ ap (λ n. n + nodes left.now) (one_nodes waiting right) ∙ omega arith
+
+-- the same of plans
+
+same_scans : (them : List Plan) → waiting_scans them ≡ from_end scans them
+same_scans [] = refl
+same_scans (plan ∷ them) = ap (λ (xs : List ℕ). xs ++ scans plan) (same_scans them)
+
+scans_push : (them : List Plan) (plan : Plan) → waiting_scans (them ++ plan ∷ []) ≡ scans plan ++ waiting_scans them
+scans_push them plan = same_scans (them ++ plan ∷ []) ∙ from_end_push scans them plan ∙ ap (λ (xs : List ℕ). scans plan ++ xs) (sym (same_scans them))
+
+plan_nodes_push : (them : List Plan) (plan : Plan) → waiting_plan_nodes (them ++ plan ∷ []) ≡ waiting_plan_nodes them + plan_nodes plan
+plan_nodes_push [] plan = refl
+plan_nodes_push (other ∷ them) plan = ap (λ n. n + plan_nodes other) (plan_nodes_push them plan) ∙ omega arith
+
+plans_push : (waiting : List (Bor Plan)) (one : Bor Plan) → plans (waiting ++ one ∷ []) ≡ plans waiting ++ one.now ∷ []
+plans_push waiting one = map-append (λ (r : Bor Plan). r.now) waiting (one ∷ [])
+
+pub one_scans : (waiting : List (Bor Plan)) (one : Bor Plan) → waiting_scans (plans (waiting ++ one ∷ [])) ≡ scans one.now ++ waiting_scans (plans waiting)
+one_scans waiting one = ap waiting_scans (plans_push waiting one) ∙ scans_push (plans waiting) one.now
+
+pub one_plan_nodes : (waiting : List (Bor Plan)) (one : Bor Plan) → waiting_plan_nodes (plans (waiting ++ one ∷ [])) ≡ waiting_plan_nodes (plans waiting) + plan_nodes one.now
+one_plan_nodes waiting one = ap waiting_plan_nodes (plans_push waiting one) ∙ plan_nodes_push (plans waiting) one.now
+
+pub both_scans : (waiting : List (Bor Plan)) (left right : Bor Plan) → waiting_scans (plans ((waiting ++ right ∷ []) ++ left ∷ [])) ≡ scans left.now ++ scans right.now ++ waiting_scans (plans waiting)
+both_scans waiting left right = one_scans (waiting ++ right ∷ []) left ∙ ap (λ (xs : List ℕ). scans left.now ++ xs) (one_scans waiting right) ∙ sym (append_assoc (scans left.now) (scans right.now) (waiting_scans (plans waiting)))
+
+pub both_plan_nodes : (waiting : List (Bor Plan)) (left right : Bor Plan) → waiting_plan_nodes (plans ((waiting ++ right ∷ []) ++ left ∷ [])) ≡ waiting_plan_nodes (plans waiting) + plan_nodes left.now + plan_nodes right.now
+both_plan_nodes waiting left right = one_plan_nodes (waiting ++ right ∷ []) left ∙ ap (λ n. n + plan_nodes left.now) (one_plan_nodes waiting right) ∙ omega arith

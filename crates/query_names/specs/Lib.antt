@@ -5,5 +5,7 @@ pub mod NameSteps
 pub mod Once
 pub mod Parts
 pub mod PlanSteps
+pub mod ScannedTables
 pub mod TableNumbers
 pub mod Waiting
+pub mod WaitingPlans

@@ -1,6 +1,6 @@
 -- Which case of the names is shown: an unknown table before an unknown column, and both before a parameter without a
 -- kind.
-use Rattle.std.specs.Prelude.{ℕ, ◌≡◌, Bool, true, false, List, Option, Some, None, slice_get}
+use Rattle.std.specs.Prelude.{◌≡◌, Bool, true, false, List, Option, Some, None, slice_get}
 use Rattle.std.specs.List.{find}
 use Rattle.std.specs.Option.{option_or}
 use Rattle.query_meaning.specs.Cases.{Case, IsOneOf, case_of, no_kind}

@@ -2,7 +2,7 @@ use Rattle.std.proofs.Common.{◌≡◌, ◌≤◌}
 use Rattle.query_meaning.specs.declared.plan.Plan.{size-Plan}
 use Rattle.query_meaning.specs.Plans.{bound_plan}
 use Rattle.query_names.specs.PlanSteps.{rewrapped}
-use Rattle.query_names.proofs.bind_plan.+bound_plan.Given as goal
+use Rattle.query_names.proofs.plan_binding.+bound_plan.Given as goal
 
 -- the steps so far, round what is left with its values, are the whole with its values
 abbrev pub invariant-loop-at : goal.invariant-loop-at
