@@ -62,14 +62,16 @@ no_case kinds names is =
 
 pub one_case : (kinds : List Kind) (names : Named) (one : Case) → first_case kinds names ≡ Some one → IsOneOf (names.unknown ++ without_kind kinds names.parameters) one
 one_case kinds names one is = elim (or_some (shown names.unknown) (slice_get (without_kind kinds names.parameters) 0) one is) [
-    inl unknown ↦ one_of_left names.unknown (without_kind kinds names.parameters) one (one_shown names.unknown one unknown)
-  | inr lacking ↦ one_of_right names.unknown (without_kind kinds names.parameters) one (one_of_first (without_kind kinds names.parameters) one lacking) ]
+  | inl unknown ↦ one_of_left names.unknown (without_kind kinds names.parameters) one (one_shown names.unknown one unknown)
+  | inr lacking ↦ one_of_right names.unknown (without_kind kinds names.parameters) one (one_of_first (without_kind kinds names.parameters) one lacking)
+]
 
 -- a refusal that shows the first case
 pub case_holds : (kinds : List Kind) (tables : List Table) (query : Query) (names : Named) (one : Case) (why : TypeRefused) → names ≡ names_of tables query → names.too_wide ≡ None → first_case kinds names ≡ Some one → Shows one why → RefusesNames kinds tables query why
 case_holds kinds tables query names one (refused.Ill why) said narrow first shows = (
-    ap (λ (n : Named). n.too_wide) (sym said) ∙ narrow,
-    shows.0,
-    subst (λ (n : Named). IsOneOf (n.unknown ++ without_kind kinds n.parameters) (case_of why)) said (subst (λ (c : Case). IsOneOf (names.unknown ++ without_kind kinds names.parameters) c) (sym shows.1) (one_case kinds names one first)))
+  ap (λ (n : Named). n.too_wide) (sym said) ∙ narrow,
+  shows.0,
+  subst (λ (n : Named). IsOneOf (n.unknown ++ without_kind kinds n.parameters) (case_of why)) said (subst (λ (c : Case). IsOneOf (names.unknown ++ without_kind kinds names.parameters) c) (sym shows.1) (one_case kinds names one first)),
+)
 case_holds kinds tables query names one (refused.TooWide count) said narrow first shows = absurd shows
 case_holds kinds tables query names one refused.Memory said narrow first shows = tt

@@ -1,6 +1,8 @@
 mod CaseLaws
 mod ColumnLaws
+mod CoverLaws
 mod ItemLaws
+mod KindLaws
 mod NameStepLaws
 mod NumberLaws
 mod OnceLaws
@@ -9,3 +11,4 @@ mod PartLaws
 mod ScanLaws
 mod StepLaws
 mod WaitingLaws
+mod WriteLaws

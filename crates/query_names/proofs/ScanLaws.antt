@@ -159,9 +159,9 @@ pub marked_next : (tables : List Table) (marks : List Bool) (place : ℕ) (table
 marked_next tables marks place table columns them after within full here marked are made added = record {
   numbers =
       ap (map (λ (it : TableColumns). it.table)) added
-        ∙ map-append (λ (it : TableColumns). it.table) them (record { table = place; columns = columns } ∷ [])
-        ∙ ap (λ (xs : List ℕ). xs ++ place ∷ []) are.numbers
-        ∙ sym (taken_more marks place true (omega (arith, within, full)) marked);
+      ∙ map-append (λ (it : TableColumns). it.table) them (record { table = place; columns = columns } ∷ [])
+      ∙ ap (λ (xs : List ℕ). xs ++ place ∷ []) are.numbers
+      ∙ sym (taken_more marks place true (omega (arith, within, full)) marked);
   stored = subst (AllByRecursion (IsTableOf tables)) (sym added) (all_push (IsTableOf tables) them (record { table = place; columns = columns }) are.stored (ap (option_map (λ (t : Table). map (stored_column t) t.columns)) (slice_get_read tables (length tables) place table refl within here) ∙ ap (λ (cs : List TypedColumn). Some cs) (sym made)));
 }
 
@@ -262,3 +262,6 @@ at_end (mark ∷ marks) (suc k) none = at_end marks k (λ j. none (suc j))
 
 pub pushed_unmarked : (marks after : List Bool) (k : ℕ) → ((j : ℕ) → get_or marks j false ≡ false) → after ≡ marks ++ false ∷ [] → get_or after k false ≡ false
 pushed_unmarked marks after k none is = ap (λ (ms : List Bool). get_or ms k false) is ∙ at_end marks k none
+
+pub plan_known : (tables : List Table) (query : Query) (p : Plan) → p ≡ plan_of tables query → all_below (length tables) (scans p) ≡ true
+plan_known tables query p is = ap (λ (x : Plan). all_below (length tables) (scans x)) is ∙ scans_known tables query

@@ -5,6 +5,7 @@ use Rattle.query_meaning.specs.Parameters.{Partner, OfKind, Unknown, Open, Occur
 use Rattle.query_meaning.specs.declared.ill.IllCase.TheVariants as ill
 use Rattle.vra_syntax.specs.declared.cond.Operand.{Operand}
 use Rattle.vra_syntax.specs.declared.cond.Operand.TheVariants as operand
+use Rattle.vschema.specs.Variants.{bare_name}
 use Rattle.query_names.specs.declared.found.Facing.{Facing}
 use Rattle.query_names.specs.declared.found.Facing.TheVariants as face
 use Rattle.query_names.specs.declared.found.ParamPlace.{ParamPlace}
@@ -14,6 +15,7 @@ use Rattle.query_names.specs.declared.found.UnknownName.TheVariants as unknown
 abbrev pub case_for : UnknownName → Case
 case_for (unknown.Table name) = no_table name.now
 case_for (unknown.Column name) = case ill.NoColumn name.now
+case_for (unknown.Bare name) = case ill.NoColumn (bare_name name.now)
 
 abbrev pub cases : List UnknownName → List Case
 cases names = map case_for names

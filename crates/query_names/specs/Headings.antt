@@ -1,5 +1,5 @@
 -- Possible columns as names and kinds alone.
-use Rattle.std.specs.Prelude.{List, map}
+use Rattle.std.specs.Prelude.{ℕ, List, Option, map}
 use Rattle.std.specs.Option.{option_copied}
 use Rattle.plain_relation.specs.Relations.{Column}
 use Rattle.values.specs.declared.column_name.ColName.{ColName}
@@ -11,6 +11,9 @@ heading column = record { name = record { prefix = option_copied column.prefix; 
 
 abbrev pub headings : List PossibleColumn → List Column
 headings columns = map heading columns
+
+abbrev pub full_name : Option (List ℕ) → List ℕ → ColName
+full_name prefix base = record { prefix = prefix; base = base }
 
 abbrev pub of_kind : ColName → Kind → Column
 of_kind name kind = record { name = name; kind = kind }

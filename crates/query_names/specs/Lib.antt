@@ -1,3 +1,4 @@
+pub mod Covered
 pub mod Findings
 pub mod Headings
 pub mod NameCases
@@ -6,6 +7,8 @@ pub mod Once
 pub mod Parts
 pub mod PlanSteps
 pub mod ScannedTables
+pub mod Settling
 pub mod TableNumbers
 pub mod Waiting
 pub mod WaitingPlans
+pub mod Writes

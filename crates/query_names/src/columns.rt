@@ -3,7 +3,7 @@ ghost use Rattle.std.specs.Option.{option_copied};
 ghost use Rattle.plain_relation.specs.Relations.{same_name, same_prefix};
 ghost use Rattle.plain_relation.specs.Values.{same_kind};
 ghost use Rattle.query_meaning.specs.Sources.{table_column};
-ghost use Rattle.query_names.specs.Headings.{heading, headings, of_kind};
+ghost use Rattle.query_names.specs.Headings.{full_name, heading, headings, of_kind};
 ghost use Rattle.relational_algebra.specs.Columns.{aliased, among, kinds_of, named, once, same_column, with_column};
 
 use std::alloc::Global;
@@ -18,10 +18,10 @@ pub struct PossibleColumn<'a> {
     pub kind: Kind,
 }
 
-pub fn is_named(column: &PossibleColumn<'_>, name: &ColName) -> bool
-    ensures { result ≡ same_name (heading column.now).name name.now }
+fn is_named(column: &PossibleColumn<'_>, prefix: Option<&Name>, base: &Name) -> bool
+    ensures { result ≡ same_name (heading column.now).name (full_name (option_copied prefix.entry) base.now) }
 {
-    is_same_prefix(column.prefix, name.prefix.as_ref()) && *column.base == name.base
+    is_same_prefix(column.prefix, prefix) && *column.base == *base
 }
 
 fn is_same_prefix(one: Option<&Name>, other: Option<&Name>) -> bool
@@ -66,16 +66,29 @@ fn is_among(column: &PossibleColumn<'_>, columns: &[PossibleColumn<'_>]) -> bool
 }
 
 /// The kinds that the columns of a name have.
-pub fn kinds_named(
+pub fn kinds_of_name(
     alloc: Global,
     columns: &[PossibleColumn<'_>],
     name: &ColName,
 ) -> Result<Vec<Kind>, Memory>
     ensures { IfOk result (λ kinds. kinds.items ≡ kinds_of (named name.now (headings columns.now))) }
 {
+    let kinds = kinds_named(alloc, columns, name.prefix.as_ref(), &name.base)?;
+    Ok(kinds)
+}
+
+/// The kinds that the columns with this prefix and base have.
+pub fn kinds_named(
+    alloc: Global,
+    columns: &[PossibleColumn<'_>],
+    prefix: Option<&Name>,
+    base: &Name,
+) -> Result<Vec<Kind>, Memory>
+    ensures { IfOk result (λ kinds. kinds.items ≡ kinds_of (named (full_name (option_copied prefix.entry) base.now) (headings columns.now))) }
+{
     let mut kinds = Vec::new(alloc);
     for column in columns {
-        if is_named(column, name) {
+        if is_named(column, prefix, base) {
             kinds.push(column.kind)?;
         }
     }

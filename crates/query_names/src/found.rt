@@ -3,8 +3,9 @@ ghost use Rattle.query_meaning.specs.Cases.{no_table};
 ghost use Rattle.query_meaning.specs.Parameters.{occurrence, partner_by, partner_of};
 ghost use Rattle.query_names.specs.Findings.{cases, facing, places, unknown_by};
 ghost use Rattle.query_names.specs.Headings.{headings};
+ghost use Rattle.vschema.specs.Variants.{bare_name};
 
-use crate::columns::{PossibleColumn, kinds_named};
+use crate::columns::{PossibleColumn, kinds_of_name};
 use std::alloc::Global;
 use values::{ColName, Kind, Memory, Name};
 use vra_syntax::Operand;
@@ -14,6 +15,8 @@ use vra_syntax::Operand;
 pub enum UnknownName<'a> {
     Table(&'a Name),
     Column(&'a ColName),
+    /// A column without a prefix, as a write names it.
+    Bare(&'a Name),
 }
 
 /// What stands opposite an operand of a comparison.
@@ -71,6 +74,56 @@ impl<'a> Findings<'a> {
         Ok(())
     }
 
+    /// Adds the name of a write's column that isn't known, by what it is over the table's columns.
+    pub fn add_bare(&mut self, name: &'a Name, is: Facing) -> Result<(), Memory>
+        ensures unknown { OnOk result (cases self.new.unknown.items ≡ cases self.old.unknown.items ++ unknown_by (facing is) (Operand.Column (bare_name name.now))) }
+        ensures parameters { OnOk result (self.new.parameters ≡ self.old.parameters) }
+    {
+        match is {
+            Facing::Unknown => {
+                self.unknown.push(UnknownName::Bare(name))?;
+                Ok(())
+            }
+            Facing::OfKind(_kind) => Ok(()),
+            Facing::Open => Ok(()),
+        }
+    }
+
+    /// Adds a value, if it is a parameter.
+    pub fn add_value(&mut self, value: &Operand, faces: Facing) -> Result<(), Memory>
+        ensures unknown { OnOk result (self.new.unknown ≡ self.old.unknown) }
+        ensures parameters { OnOk result (places self.new.parameters.items ≡ places self.old.parameters.items ++ occurrence (facing faces) value.now) }
+    {
+        match value {
+            Operand::Column(_name) => Ok(()),
+            Operand::Literal(_value) => Ok(()),
+            Operand::Param(number) => {
+                self.parameters.push(ParamPlace {
+                    number: *number,
+                    facing: faces,
+                })?;
+                Ok(())
+            }
+        }
+    }
+
+    /// The same parameters, with the name of a table as all that isn't known.
+    pub fn with_table_alone(self, alloc: Global, name: &'a Name) -> Result<Findings<'a>, Memory>
+        ensures unknown { IfOk result (λ it. cases it.unknown.items ≡ no_table name.now ∷ []) }
+        ensures parameters { IfOk result (λ it. it.parameters ≡ self.entry.parameters) }
+    {
+        let mut unknown = Vec::new(alloc);
+        unknown.push(UnknownName::Table(name))?;
+        let Findings {
+            unknown: _unknown,
+            parameters,
+        } = self;
+        Ok(Findings {
+            unknown,
+            parameters,
+        })
+    }
+
     /// Adds what an operand is: a name that isn't known, or a parameter.
     pub fn add_operand(
         &mut self,
@@ -120,7 +173,7 @@ pub fn facing_of(
 {
     match operand {
         Operand::Column(name) => {
-            let kinds = kinds_named(alloc, columns, name)?;
+            let kinds = kinds_of_name(alloc, columns, name)?;
             let facing = facing_by(kinds.as_slice());
             Ok(facing)
         }

@@ -1,6 +1,7 @@
-ghost use Rattle.std.specs.Prelude.{◌≡◌, OnOk, IfOk};
-ghost use Rattle.query_meaning.specs.Plans.{plan_of, scan_of};
+ghost use Rattle.std.specs.Prelude.{◌≡◌, true, length, OnOk, IfOk};
+ghost use Rattle.query_meaning.specs.Plans.{plan_of, scan_of, scans};
 ghost use Rattle.query_meaning.specs.declared.plan.Plan as plan;
+ghost use Rattle.query_names.specs.ScannedTables.{all_below};
 ghost use Rattle.query_names.specs.PlanSteps.{wrapped, rewrapped};
 
 use crate::plan_steps::{PlanStep, rebuilt};
@@ -12,7 +13,16 @@ use vra_syntax::{Cond, Items, Query};
 
 /// The plan of the query's own shape, which goes over the tables by their numbers. A table that isn't in the catalogue
 /// is `Nothing`.
+#[tactic(auto, using(crate::proofs::ScanLaws::plan_known))]
 pub fn plan_of(alloc: Global, tables: &TableNames<'_>, query: &Query) -> Result<Plan, Memory>
+    ensures plan { IfOk result (λ it. it ≡ plan_of tables.now.tables.now query.now) }
+    ensures known { IfOk result (λ it. all_below (length tables.now.tables.now) (scans it) ≡ true) }
+{
+    let plan = shaped_plan(alloc, tables, query)?;
+    Ok(plan)
+}
+
+fn shaped_plan(alloc: Global, tables: &TableNames<'_>, query: &Query) -> Result<Plan, Memory>
     ensures { IfOk result (λ it. it ≡ plan_of tables.now.tables.now query.now) }
 {
     let mut steps = Vec::new(alloc);
@@ -25,18 +35,18 @@ pub fn plan_of(alloc: Global, tables: &TableNames<'_>, query: &Query) -> Result<
                 at = source.get();
             }
             Query::Join(left, right, cond) => {
-                let right = plan_of(alloc, tables, right.get())?;
+                let right = shaped_plan(alloc, tables, right.get())?;
                 let cond = cond.copy(alloc)?;
                 put_step(&mut steps, PlanStep::Join(right, cond), left.get(), tables)?;
                 at = left.get();
             }
             Query::Union(left, right) => {
-                let right = plan_of(alloc, tables, right.get())?;
+                let right = shaped_plan(alloc, tables, right.get())?;
                 put_step(&mut steps, PlanStep::Union(right), left.get(), tables)?;
                 at = left.get();
             }
             Query::Except(left, right) => {
-                let right = plan_of(alloc, tables, right.get())?;
+                let right = shaped_plan(alloc, tables, right.get())?;
                 put_step(&mut steps, PlanStep::Except(right), left.get(), tables)?;
                 at = left.get();
             }
@@ -47,7 +57,7 @@ pub fn plan_of(alloc: Global, tables: &TableNames<'_>, query: &Query) -> Result<
             }
             Query::Choice(expr, left, right) => {
                 let expr = expr.copy(alloc)?;
-                let right = plan_of(alloc, tables, right.get())?;
+                let right = shaped_plan(alloc, tables, right.get())?;
                 put_step(
                     &mut steps,
                     PlanStep::Choose(expr, right),

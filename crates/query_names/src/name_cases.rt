@@ -89,6 +89,7 @@ fn is_table(name: &UnknownName<'_>) -> bool
     match name {
         UnknownName::Table(_) => true,
         UnknownName::Column(_) => false,
+        UnknownName::Bare(_) => false,
     }
 }
 
@@ -131,11 +132,27 @@ fn ill_typed(alloc: Global, fault: NameFault<'_>) -> Result<IllTyped, Memory>
     match fault {
         NameFault::Unknown(UnknownName::Table(name)) => {
             let name = name.copy(alloc)?;
-            Ok(ill(IllCase::NoTable, ColName { prefix: None, base: name }))
+            Ok(ill(
+                IllCase::NoTable,
+                ColName {
+                    prefix: None,
+                    base: name,
+                },
+            ))
         }
         NameFault::Unknown(UnknownName::Column(name)) => {
             let name = name.copy(alloc)?;
             Ok(ill(IllCase::NoColumn, name))
+        }
+        NameFault::Unknown(UnknownName::Bare(name)) => {
+            let name = name.copy(alloc)?;
+            Ok(ill(
+                IllCase::NoColumn,
+                ColName {
+                    prefix: None,
+                    base: name,
+                },
+            ))
         }
         NameFault::Param(number) => Ok(ill(
             IllCase::ParamKind(number),

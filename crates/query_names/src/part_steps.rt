@@ -10,7 +10,7 @@ ghost use Rattle.vra_syntax.specs.declared.items.Items.TheVariants as listed;
 ghost use Rattle.vra_syntax.specs.declared.query.Query.TheOpen.{Query-F};
 
 use crate::columns::{
-    PossibleColumn, add_kinds, aliased_columns, kinds_named, merge, table_columns,
+    PossibleColumn, add_kinds, aliased_columns, kinds_of_name, merge, table_columns,
 };
 use crate::cond_names::read_cond;
 use crate::found::{Findings, facing_by};
@@ -198,7 +198,7 @@ fn kept_columns<'a>(
 {
     let mut kept = Vec::new(alloc);
     for item in items {
-        let kinds = kinds_named(alloc, source, &item.column)?;
+        let kinds = kinds_of_name(alloc, source, &item.column)?;
         findings.add_name(&item.column, facing_by(kinds.as_slice()))?;
         add_kinds(&mut kept, given(item), kinds.as_slice())?;
     }
@@ -275,9 +275,9 @@ fn join_part<'a>(
         findings: behind,
     } = right;
     findings.append(behind)?;
-    let possible = merge(possible, more.as_slice())?;
-    read_cond(alloc, possible.as_slice(), cond, &mut findings)?;
-    let names = narrow(possible, findings)?;
+    let columns = merge(possible, more.as_slice())?;
+    read_cond(alloc, columns.as_slice(), cond, &mut findings)?;
+    let names = narrow(columns, findings)?;
     Ok(names)
 }
 

@@ -79,11 +79,7 @@ fn put_one<'a>(waiting: &mut Vec<&'a Plan>, source: &'a Plan) -> Result<(), Memo
 
 /// Puts the left part before the right one.
 #[tactic(auto, using(crate::proofs::WaitingLaws::both_scans, crate::proofs::WaitingLaws::both_plan_nodes))]
-fn put_both<'a>(
-    waiting: &mut Vec<&'a Plan>,
-    left: &'a Plan,
-    right: &'a Plan,
-) -> Result<(), Memory>
+fn put_both<'a>(waiting: &mut Vec<&'a Plan>, left: &'a Plan, right: &'a Plan) -> Result<(), Memory>
     ensures scans { OnOk result (waiting_scans (plans waiting.new.items) ≡ scans left.now ++ scans right.now ++ waiting_scans (plans waiting.old.items)) }
     ensures nodes { OnOk result (waiting_plan_nodes (plans waiting.new.items) ≡ waiting_plan_nodes (plans waiting.old.items) + plan_nodes left.now + plan_nodes right.now) }
 {
