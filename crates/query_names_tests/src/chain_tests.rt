@@ -38,7 +38,9 @@ fn is_walked(rt: &impl Abort, alloc: Global, first: &str, link: &str) -> Result<
     let names = names_of(alloc, &tables, query).ok().ok_or("names")?;
     let columns = listed(alloc, names.possible.as_slice())?;
     assert_eq!(rt; columns.as_str(), "id int8");
-    let kinds = param_kinds(alloc, &tables, &statement, &[]).ok().ok_or("kinds")?;
+    let kinds = param_kinds(alloc, &tables, &statement, &[])
+        .ok()
+        .ok_or("kinds")?;
     assert!(rt; kinds.as_slice().iter().all(|kind| *kind == Kind::Int));
     let plan = plan_of(alloc, &tables, query)?;
     let scanned = plan_tables(alloc, tables.tables(), &plan)?;

@@ -8,22 +8,23 @@ use values::Kind;
 use vra_syntax::Statement;
 use vschema::parse_catalog;
 
-const CATALOGUE: &str = "features A, B; table emp (id int8, name text, pay int8) when A; table dept (id int8, boss text); table odd (id text, x bool);";
+const CATALOGUE: &str =
+    "features A, B; table emp (id int8, name text, pay int8) when A; table dept (id int8, boss text); table odd (id text, x bool);";
 
 /// A query and its possible columns, a line each.
 const COLUMNS: &str = "\
 emp => id int8, name text, pay int8
-none => 
+gone => 
 empty => 
-emp join dept on true => id int8, name text, pay int8, boss text
-dept join emp on true => id int8, boss text, name text, pay int8
+select * from emp join dept on true => id int8, name text, pay int8, boss text
+select * from dept join emp on true => id int8, boss text, name text, pay int8
 emp union odd => id int8, name text, pay int8, id text, x bool
 emp except odd => id int8, name text, pay int8
 choice [A] (dept, odd) => id int8, boss text, id text, x bool
-emp as e => e.id int8, e.name text, e.pay int8
-emp as e as f => f.id int8, f.name text, f.pay int8
-(emp as a join emp as b on true) as c => c.id int8, c.name text, c.pay int8
-(dept union odd as o) as e => e.id int8, e.boss text, e.id text, e.x bool
+select * from emp as e => e.id int8, e.name text, e.pay int8
+select * from (select * from emp as e) as f => f.id int8, f.name text, f.pay int8
+select * from (select * from emp as a join emp as b on true) as c => c.id int8, c.name text, c.pay int8
+select * from (dept union select * from odd as o) as e => e.id int8, e.boss text, e.id text, e.x bool
 select id, name as who, id as a.id from emp => id int8, who text, a.id int8
 select id as x from (dept union odd) => x int8, x text
 select id as x, boss as x, id as x from dept => x int8, x text
@@ -57,11 +58,11 @@ select * from (dept union odd) where id = $1 => no kind of 1
 select * from emp where id = $2 => no kind of 1
 select * from emp where $1 = $1 => no kind of 1
 select * from emp where nothing = $1 => no column
-select * from none where id = $1 => no table
+select * from gone where id = $1 => no table
 choice [A] (emp, select * from emp where id = 1 and 2 = $1) =>  int8
 insert into emp (id, name) values ($2, $1), (1, $3) =>  text int8 text
 insert into emp (id, nothing) values (1, $1) => no column
-insert into none (id) values ($1) => no table
+insert into gone (id) values ($1) => no table
 update emp set name = $1, pay = $2 where id = $1 =>  text int8
 delete from emp where name < $1 =>  text
 begin => 
@@ -152,7 +153,7 @@ fn wide_tables(alloc: Global) -> Result<String, Fail> {
 }
 
 fn put_join(text: &mut String, count: usize) -> Result<(), Fail> {
-    text.push_str("(t0")?;
+    text.push_str("(select * from t0")?;
     for table in 1..count {
         write!(text, " join t{table} on true")?;
     }
