@@ -10,4 +10,8 @@ mod refused;
 
 pub use check::check_catalog;
 pub use laws::check_laws;
+pub use query_names::{
+    NamesRefused, QueryNames, TableNames, Typed, bind_plan, check_names, names_of, param_kinds,
+    plan_of, plan_tables,
+};
 pub use refused::CheckRefused;

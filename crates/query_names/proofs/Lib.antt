@@ -1,0 +1,14 @@
+mod CaseLaws
+mod ColumnLaws
+mod CoverLaws
+mod ItemLaws
+mod KindLaws
+mod NameStepLaws
+mod NumberLaws
+mod OnceLaws
+mod OperandLaws
+mod PartLaws
+mod ScanLaws
+mod StepLaws
+mod WaitingLaws
+mod WriteLaws

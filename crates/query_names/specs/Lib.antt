@@ -1,0 +1,14 @@
+pub mod Covered
+pub mod Findings
+pub mod Headings
+pub mod NameCases
+pub mod NameSteps
+pub mod Once
+pub mod Parts
+pub mod PlanSteps
+pub mod ScannedTables
+pub mod Settling
+pub mod TableNumbers
+pub mod Waiting
+pub mod WaitingPlans
+pub mod Writes
