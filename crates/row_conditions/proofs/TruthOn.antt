@@ -30,8 +30,8 @@ truth_by_slots cond columns row = record {
   features = λ feature h. known (cond_mentions feature cond) (slots_mention feature (slots_of columns row.cells)) (mentioned_in feature columns) (slots_known feature columns row.cells) (truth_mentions feature (slots_of columns row.cells) cond h);
 }
 
-pub truth_is_on : (cond : Cond) (columns : List VColumn) (row : VRow) (truth : Expr) → truth ≡ truth_of (slots_of columns row.cells ++ []) cond → IsTruthOn cond columns row truth
-truth_is_on cond columns row truth is = subst (IsTruthOn cond columns row) (sym (is ∙ ap (λ slots. truth_of slots cond) (append-nil (slots_of columns row.cells)))) (truth_by_slots cond columns row)
+pub truth_is_on : (cond : Cond) (columns : List VColumn) (row : VRow) (truth : Expr) → truth ≡ truth_of (slots_of columns row.cells) cond → IsTruthOn cond columns row truth
+truth_is_on cond columns row truth is = subst (IsTruthOn cond columns row) (sym is) (truth_by_slots cond columns row)
 
 pub pair_is : (left right pair : VRow) → pair.cells ≡ left.cells ++ right.cells → pair.cond ≡ and_of left.cond right.cond → IsPair left right pair
 pair_is left right pair cells cond = record {

@@ -7,4 +7,4 @@ mod truth;
 
 pub use comparison::Part;
 pub use pair::pair_rows;
-pub use truth::{cond_on_row, truth_on};
+pub use truth::{cond_on_row, row_truth, truth_on};

@@ -1,4 +1,5 @@
 ghost use Rattle.std.specs.Prelude.{◌≡◌, ◌+◌, ◌++◌, IfOk, OnOk};
+ghost use Rattle.feature_expr.specs.Expressions.{and_of};
 ghost use Rattle.row_conditions.specs.RowConditions.{IsPair};
 
 use feature_expr::and;
@@ -17,6 +18,7 @@ pub fn pair_rows<L: Ledger>(
     steps: &mut Steps<L>,
 ) -> Result<VRow, Memory>
     ensures pair { IfOk result (λ pair. IsPair left.now right.now pair) }
+    ensures folded { IfOk result (λ pair. pair.cond ≡ and_of left.now.cond right.now.cond) }
     ensures steps { steps.new ≡ steps.old + 1 }
 {
     steps.tick();

@@ -5,7 +5,7 @@ ghost use Rattle.row_conditions.specs.Truths.{choice_of, rewrapped_truth, slots_
 use crate::comparison::{Part, compared};
 use feature_expr::{Expr, and, not, or};
 use std::alloc::Global;
-use values::{List, Memory, TryCopy};
+use values::{List, Memory, TryCopy, Value};
 use vra_syntax::Cond;
 use vtable::{VColumn, VRow};
 
@@ -28,10 +28,20 @@ pub fn cond_on_row(
 ) -> Result<Expr, Memory>
     ensures { IfOk result (λ truth. IsTruthOn cond.now columns.now row.now truth) }
 {
-    let whole = Part {
-        columns: columns.as_slice(),
-        cells: row.cells.as_slice(),
-    };
+    let truth = row_truth(alloc, cond, columns.as_slice(), row.cells.as_slice())?;
+    Ok(truth)
+}
+
+/// The same of a row's cells.
+pub fn row_truth(
+    alloc: Global,
+    cond: &Cond,
+    columns: &[VColumn],
+    cells: &[Option<Value>],
+) -> Result<Expr, Memory>
+    ensures { IfOk result (λ truth. truth ≡ truth_of (slots_of columns.now cells.now) cond.now) }
+{
+    let whole = Part { columns, cells };
     let none = Part {
         columns: &[],
         cells: &[],

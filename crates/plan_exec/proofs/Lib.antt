@@ -1,0 +1,10 @@
+pub mod LoopLaws
+pub mod MemberLaws
+pub mod StandLaws
+pub mod LayLaws
+pub mod SettleLaws
+pub mod RowLaws
+pub mod FilterLaws
+pub mod UnionLaws
+pub mod ChoiceLaws
+pub mod ExceptLaws
