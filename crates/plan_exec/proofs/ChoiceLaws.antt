@@ -31,7 +31,7 @@ module _ (c : List ℕ) (expr : Expr) (left right : VTable) where
   abbrev order : List Column
   order = merged (headings left.columns) (headings right.columns)
 
-  to_is : (chosen_left : Bool) → satisfies c expr ≡ chosen_left → columns_at c to ≡ in_order_of order (if chosen_left then columns_at c left.columns else columns_at c right.columns)
+  pub to_is : (chosen_left : Bool) → satisfies c expr ≡ chosen_left → columns_at c to ≡ in_order_of order (if chosen_left then columns_at c left.columns else columns_at c right.columns)
   to_is b h =
       settled_at c (columns_under expr left.columns ++ columns_under (not_of expr) right.columns)
       ∙ ap₂ (λ xs ys. in_order_of (once xs) ys)

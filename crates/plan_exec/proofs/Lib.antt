@@ -8,3 +8,14 @@ pub mod FilterLaws
 pub mod UnionLaws
 pub mod ChoiceLaws
 pub mod ExceptLaws
+pub mod CodeLaws
+pub mod RankLaws
+pub mod TakenLaws
+pub mod MergeLaws
+pub mod WayLaws
+pub mod WideLaws
+pub mod KeepLaws
+pub mod AliasLaws
+pub mod JoinLaws
+pub mod StepLaws
+pub mod RunLaws

@@ -1,6 +1,7 @@
 -- One more row of a loop that keeps some.
-use Rattle.std.proofs.Common.{◌≡◌, ℕ, ◌+◌, List, [], ◌∷◌, ◌++◌, length, take, get_or, ◌<◌, Option, Some, None, refl, sym, ◌∙◌, ap, append_assoc}
-use Rattle.std.specs.List.{filter_map}
+use Rattle.std.proofs.Common.{◌≡◌, ℕ, ◌+◌, List, [], ◌∷◌, ◌++◌, length, take, get_or, ◌<◌, Option, Some, None, refl, sym, ◌∙◌, ap, append_assoc, append-nil}
+use Rattle.std.specs.List.{filter_map, flat_map}
+use Rattle.std.proofs.lemmas.List.Concat.{flat_map-append}
 use Rattle.std.specs.Option.{option_to_list}
 use Rattle.std.proofs.lemmas.List.{take_more}
 use Rattle.std.proofs.lemmas.List.Elements.{filter_map-append}
@@ -26,3 +27,15 @@ kept_behind keep xs i x first out new below is_x is_out is_new =
     ∙ ap (λ ys. ys ++ option_to_list (keep x)) is_out
     ∙ append_assoc first (filter_map keep (take i xs)) (option_to_list (keep x))
     ∙ ap (λ ys. first ++ ys) (taken keep xs i x below is_x)
+
+one_joined : {X Y : Type 0} (f : X → List Y) (xs : List X) (x : X) → flat_map f (xs ++ x ∷ []) ≡ flat_map f xs ++ f x
+one_joined f xs x = flat_map-append f xs (x ∷ []) ∙ ap (λ ys. flat_map f xs ++ ys) (append-nil (f x))
+
+-- one more item's are joined
+pub joined_more : {X Y : Type 0} (f : X → List Y) (xs : List X) (i : ℕ) (x : X) (out new : List Y) → i < length xs → x ≡ get_or xs i x → out ≡ flat_map f (take i xs) → new ≡ out ++ f x → new ≡ flat_map f (take (i + 1) xs)
+joined_more f xs i x out new below is_x is_out is_new =
+    is_new
+    ∙ ap (λ ys. ys ++ f x) is_out
+    ∙ sym (one_joined f (take i xs) x)
+    ∙ ap (λ y. flat_map f (take i xs ++ y ∷ [])) is_x
+    ∙ ap (flat_map f) (sym (take_more xs i x below))

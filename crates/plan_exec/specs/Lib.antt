@@ -1,2 +1,4 @@
+pub mod Merges
+pub mod RunTables
 pub mod Runs
 pub mod Tables

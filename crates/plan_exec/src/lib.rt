@@ -4,17 +4,27 @@
 //! The path of a type's file is part of this crate's interface: a specification above names it.
 #![tactic(auto)]
 
+mod alias;
 mod choice;
 mod except;
 mod filter;
+mod join;
+mod keep;
 mod lay;
+mod merge;
 mod place;
+mod plan_run;
 mod rows;
 mod settle;
 mod union;
+mod way;
 
+pub use alias::aliased;
 pub use choice::chosen;
 pub use except::excepted;
 pub use filter::filtered;
+pub use join::joined;
+pub use keep::kept;
+pub use plan_run::run;
 pub use rows::{Rows, TableRows};
 pub use union::united;
