@@ -1,15 +1,15 @@
 -- Columns and cells under the prefix of an alias.
-use Rattle.std.proofs.Common.{◌≡◌, ◌∙◌, ℕ, zero, suc, ◌+◌, ◌==◌, Bool, true, false, not, ◌&&◌, List, [], ◌∷◌, ◌++◌, map, length, Option, Some, None, if◌then◌else◌, refl, sym, ap, ap₂, subst, true≢false, arith}
+use Rattle.std.proofs.Common.{◌≡◌, ◌∙◌, ℕ, Bool, true, false, ◌&&◌, List, [], ◌∷◌, map, Option, Some, None, refl, sym, ap, ap₂}
 use Rattle.std.proofs.lemmas.List.{length-map}
 use Rattle.feature_expr.specs.Satisfaction.{satisfies}
 use Rattle.values.specs.declared.value.Value.{Value}
-use Rattle.plain_relation.specs.Relations.{Cell, Column, Relation, relation_with, row_of}
+use Rattle.plain_relation.specs.Relations.{Cell, Column, relation_with, row_of}
 use Rattle.relational_algebra.specs.Columns.{aliased, in_order_of, once, prefixed}
 use Rattle.relational_algebra.specs.Operations.{aliased_relation, aliased_row, relation_by}
 use Rattle.plan_exec.proofs.MergeLaws.{merge_answers, merge_formed}
 use Rattle.plan_exec.proofs.StandLaws.{Stands, answer_of, are_filled, are_whole, standing, stands_from}
 use Rattle.plan_exec.proofs.WideLaws.{by_none}
-use Rattle.plan_exec.specs.Merges.{aliased_column, aliased_table, merged_table}
+use Rattle.plan_exec.specs.Merges.{aliased_column, aliased_table}
 use Rattle.plan_exec.specs.Runs.{heading}
 use Rattle.plan_exec.specs.Tables.{columns_at, headings}
 use Rattle.vtable.specs.Answers.{IsAnswerAt, answer_at, column_at, fits, names_are_distinct}

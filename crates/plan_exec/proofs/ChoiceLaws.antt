@@ -1,20 +1,19 @@
 -- The rows of the side that a variant chooses.
-use Rattle.std.proofs.Common.{◌≡◌, ◌∙◌, ℕ, Bool, true, false, not, ◌&&◌, ◌||◌, List, [], ◌∷◌, ◌++◌, map, length, if◌then◌else◌, refl, sym, ap, ap₂, subst, true≢false, append-nil}
+use Rattle.std.proofs.Common.{◌≡◌, ◌∙◌, ℕ, Bool, true, false, not, List, [], ◌∷◌, ◌++◌, map, length, if◌then◌else◌, refl, sym, ap, ap₂, subst, true≢false, append-nil}
 use Rattle.std.proofs.lemmas.List.{map-append}
 use Rattle.feature_expr.specs.Expressions.{not_of}
 use Rattle.feature_expr.specs.Satisfaction.{satisfies}
 use Rattle.feature_expr.specs.declared.expr.Expr.{Expr}
-use Rattle.plain_relation.specs.Relations.{Cell, Column, Relation, relation_with}
+use Rattle.plain_relation.specs.Relations.{Cell, Column, relation_with}
 use Rattle.relational_algebra.specs.Columns.{among, in_order_of, merged, once}
-use Rattle.relational_algebra.specs.Operations.{chosen, laid, relation_by}
+use Rattle.relational_algebra.specs.Operations.{chosen, laid}
 use Rattle.row_conditions.proofs.FoldingLaws.{not_holds}
-use Rattle.plan_exec.proofs.LayLaws.{IsWithinAt}
 use Rattle.plan_exec.proofs.MemberLaws.{among_ordered, one_each, ordered_distinct}
 use Rattle.plan_exec.proofs.RowLaws.{CanLay, laid_filled, laid_standing, laid_whole}
 use Rattle.plan_exec.proofs.SettleLaws.{once_once, settled_at, under_is}
-use Rattle.plan_exec.proofs.StandLaws.{Stands, answer_is, answer_of, columns_at-append, filled-append, standing, standing-append, stands_as, stands_from, whole-append}
+use Rattle.plan_exec.proofs.StandLaws.{answer_is, answer_of, columns_at-append, filled-append, standing, standing-append, stands_as, stands_from, whole-append}
 use Rattle.plan_exec.specs.Runs.{heading}
-use Rattle.plan_exec.specs.Tables.{chosen_table, column_under, columns_at, columns_under, headings, once_each, rows_laid, settled}
+use Rattle.plan_exec.specs.Tables.{chosen_table, columns_at, columns_under, headings, once_each, rows_laid, settled}
 use Rattle.vtable.specs.Answers.{IsAnswerAt, answer_at, names_are_distinct}
 use Rattle.vtable.specs.declared.table.VColumn.{VColumn}
 use Rattle.vtable.specs.declared.table.VRow.{VRow}

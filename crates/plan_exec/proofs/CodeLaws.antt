@@ -1,5 +1,5 @@
 -- What a condition that is nowhere true makes of a row.
-use Rattle.std.proofs.Common.{◌≡◌, ◌∙◌, ◌++◌, ap₂, append-nil, Bool, true, false, List, [], Option, Some, None, if◌then◌else◌, refl, sym, ap, true≢false, rules}
+use Rattle.std.proofs.Common.{◌≡◌, ◌∙◌, ◌++◌, ap₂, append-nil, Bool, true, List, [], Option, refl, sym, ap, true≢false, rules}
 use Rattle.std.specs.Option.{option_to_list}
 use Rattle.feature_expr.specs.Expressions.{and_left, and_of, and_right}
 use Rattle.feature_expr.specs.declared.expr.Expr.{Expr, out-Expr}

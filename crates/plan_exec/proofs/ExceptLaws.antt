@@ -1,33 +1,31 @@
 -- The rows of the left side that the right one lacks.
-use Rattle.std.proofs.Common.{◌≡◌, ◌∙◌, ℕ, ◌==◌, Bool, true, false, not, ◌&&◌, ◌||◌, List, [], ◌∷◌, ◌++◌, map, filter, fold, length, Option, Some, None, if◌then◌else◌, refl, sym, ap, ap₂, subst, true≢false, ◌⊎◌, inl, inr}
+use Rattle.std.proofs.Common.{◌≡◌, ◌∙◌, ℕ, ◌==◌, Bool, true, false, not, ◌&&◌, ◌||◌, List, [], ◌∷◌, map, filter, fold, length, Option, Some, None, if◌then◌else◌, refl, sym, ap, ap₂, subst, true≢false}
 use Rattle.std.specs.List.{filter_map, list_all, list_any}
-use Rattle.std.specs.Option.{option_cmp}
 use Rattle.std.specs.Ordering.{is_eq}
 use Rattle.std.specs.declared.cmp.Ordering.{Ordering}
 use Rattle.std.specs.declared.cmp.Ordering.TheVariants.{Less, Equal, Greater}
-use Rattle.feature_expr.specs.Expressions.{and_of, not_of, or_of}
+use Rattle.feature_expr.specs.Expressions.{and_of, not_of}
 use Rattle.feature_expr.specs.Satisfaction.{satisfies}
 use Rattle.feature_expr.specs.declared.expr.Expr.{Expr}
 use Rattle.feature_expr.specs.declared.expr.Expr as e
 use Rattle.values.specs.Value.{kind_of}
 use Rattle.values.specs.declared.column_name.ColName.{ColName}
-use Rattle.values.specs.declared.value.Kind.{Kind}
 use Rattle.values.specs.declared.value.Value.{Value}
-use Rattle.plain_relation.specs.Relations.{Cell, Column, Relation, cell_of, columns_of, has_name, relation_with, row_of, same_name}
+use Rattle.plain_relation.specs.Relations.{Cell, Column, Relation, cell_of, has_name, relation_with, row_of, same_name}
 use Rattle.plain_relation.specs.Values.{same_kind, value_cmp}
 use Rattle.query_meaning.specs.PlainTypes.{columns_differ}
 use Rattle.relational_algebra.specs.Columns.{among, same_column}
 use Rattle.relational_algebra.specs.Operations.{excepted, has_cell, same_row}
-use Rattle.relational_algebra.specs.Values.{compares, compares_values, meets_op}
-use Rattle.row_conditions.proofs.BoolLaws.{and_false, and_first, and_second, and_true, not_true, or_assoc, or_cases, or_end, or_false, or_start, true_or_false}
+use Rattle.relational_algebra.specs.Values.{compares, meets_op}
+use Rattle.row_conditions.proofs.BoolLaws.{and_first, and_second, and_true, not_true, or_assoc, or_end, or_false, or_start}
 use Rattle.row_conditions.proofs.FoldingLaws.{and_holds, holds_False, holds_True, not_holds, or_holds}
 use Rattle.row_conditions.proofs.NameLaws.{kind_is, kind_same, name_is, name_same}
 use Rattle.row_conditions.specs.Truths.{Slot, slots_of}
-use Rattle.plan_exec.proofs.LayLaws.{Held, apart, held}
+use Rattle.plan_exec.proofs.LayLaws.{apart, held}
 use Rattle.plan_exec.proofs.MemberLaws.{among_left, among_right, both, column_same}
 use Rattle.plan_exec.proofs.RowLaws.{under_filled, under_stands, under_whole}
 use Rattle.plan_exec.proofs.SettleLaws.{any_holds, is_some_column}
-use Rattle.plan_exec.proofs.StandLaws.{Stands, answer_is, answer_of, are_filled, are_whole, standing, stands_as, stands_from}
+use Rattle.plan_exec.proofs.StandLaws.{answer_is, answer_of, are_filled, are_whole, standing, stands_as, stands_from}
 use Rattle.plan_exec.proofs.UnionLaws.{left_has, right_has}
 use Rattle.plan_exec.specs.Runs.{heading}
 use Rattle.plan_exec.specs.Tables.{alike, any_of, cell_under, columns_at, excepted_table, headings, is_false, matching, once_each, row_without, same_cell, with_alike, with_match}

@@ -1,11 +1,9 @@
 -- The rows of which a condition is true.
-use Rattle.std.proofs.Common.{◌≡◌, ◌∙◌, ℕ, ◌==◌, Bool, true, false, not, ◌&&◌, ◌||◌, List, [], ◌∷◌, ◌++◌, map, filter, length, Option, Some, None, if◌then◌else◌, refl, sym, ap, ap₂, subst, true≢false}
-use Rattle.std.specs.List.{cons_option, filter_map, list_any}
+use Rattle.std.proofs.Common.{◌≡◌, ◌∙◌, ℕ, ◌==◌, Bool, true, false, ◌&&◌, List, [], ◌∷◌, map, filter, length, Option, if◌then◌else◌, refl, sym, ap, ap₂}
 use Rattle.feature_expr.specs.Expressions.{and_of}
 use Rattle.feature_expr.specs.Satisfaction.{satisfies}
-use Rattle.feature_expr.specs.declared.expr.Expr.{Expr}
 use Rattle.values.specs.declared.value.Value.{Value}
-use Rattle.plain_relation.specs.Relations.{Cell, Column, Relation, relation_with, row_of}
+use Rattle.plain_relation.specs.Relations.{Cell, Column, relation_with, row_of}
 use Rattle.relational_algebra.specs.Conditions.{holds}
 use Rattle.relational_algebra.specs.Operations.{filtered}
 use Rattle.row_conditions.proofs.BoolLaws.{and_first, and_second}
@@ -15,8 +13,8 @@ use Rattle.row_conditions.proofs.TruthLaws.{truth_holds}
 use Rattle.row_conditions.specs.RowConditions.{cells_are_distinct}
 use Rattle.row_conditions.specs.Truths.{slots_of, truth_of}
 use Rattle.plan_exec.proofs.RowLaws.{cells_distinct, under_filled, under_stands, under_whole}
-use Rattle.plan_exec.proofs.StandLaws.{Stands, answer_is, answer_of, are_filled, are_whole, standing, stands_as, stands_from}
-use Rattle.plan_exec.specs.Tables.{columns_at, filtered_table, is_false, row_meeting, rows_meeting}
+use Rattle.plan_exec.proofs.StandLaws.{answer_is, answer_of, are_filled, are_whole, standing, stands_as, stands_from}
+use Rattle.plan_exec.specs.Tables.{columns_at, filtered_table, is_false, rows_meeting}
 use Rattle.vra_syntax.specs.declared.cond.Cond.{Cond}
 use Rattle.vtable.specs.Answers.{IsAnswerAt, answer_at, column_at, fits, names_are_distinct}
 use Rattle.vtable.specs.declared.table.VColumn.{VColumn}

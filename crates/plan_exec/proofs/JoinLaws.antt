@@ -1,5 +1,5 @@
 -- The pairs of rows of which a condition is true.
-use Rattle.std.proofs.Common.{◌≡◌, ◌∙◌, ℕ, zero, suc, ◌+◌, ◌==◌, Bool, true, false, not, ◌&&◌, List, [], ◌∷◌, ◌++◌, map, filter, length, length-append, Option, Some, None, if◌then◌else◌, refl, sym, ap, ap₂, subst, true≢false, arith, eq-eqb}
+use Rattle.std.proofs.Common.{◌≡◌, ◌∙◌, ℕ, ◌+◌, ◌==◌, Bool, true, false, ◌&&◌, List, [], ◌∷◌, ◌++◌, map, filter, length, length-append, Option, Some, None, if◌then◌else◌, refl, sym, ap, ap₂, subst, arith, eq-eqb}
 use Rattle.std.proofs.lemmas.Bool.{eqb-true}
 use Rattle.std.proofs.lemmas.List.{length-map, map-append}
 use Rattle.std.proofs.lemmas.List.Elements.{filter-append}
@@ -8,24 +8,23 @@ use Rattle.feature_expr.specs.Expressions.{and_of}
 use Rattle.feature_expr.specs.Satisfaction.{satisfies}
 use Rattle.feature_expr.specs.declared.expr.Expr.{Expr}
 use Rattle.values.specs.declared.value.Value.{Value}
-use Rattle.plain_relation.specs.Relations.{Cell, Column, Relation, columns_of, relation_with, row_of}
+use Rattle.plain_relation.specs.Relations.{Cell, Column, columns_of, relation_with, row_of}
 use Rattle.relational_algebra.specs.Columns.{both_sides, in_order_of, merged, once}
 use Rattle.relational_algebra.specs.Conditions.{holds}
 use Rattle.relational_algebra.specs.Operations.{joined, pairs, relation_by}
-use Rattle.row_conditions.proofs.BoolLaws.{and_false, and_first, and_second}
+use Rattle.row_conditions.proofs.BoolLaws.{and_first, and_second}
 use Rattle.row_conditions.proofs.FoldingLaws.{and_holds}
 use Rattle.row_conditions.proofs.SlotLaws.{row_is, slots_row-append}
 use Rattle.row_conditions.proofs.TruthLaws.{truth_holds}
 use Rattle.row_conditions.specs.RowConditions.{cells_are_distinct}
 use Rattle.row_conditions.specs.Truths.{slots_of, truth_of}
 use Rattle.plan_exec.proofs.ChoiceLaws.{headings_under}
-use Rattle.plan_exec.proofs.MemberLaws.{both}
 use Rattle.plan_exec.proofs.MergeLaws.{merge_answers, merge_formed}
 use Rattle.plan_exec.proofs.RowLaws.{cells_distinct, under_filled, under_stands, under_whole}
 use Rattle.plan_exec.proofs.SettleLaws.{any_holds, is_some_column, under_is}
 use Rattle.plan_exec.proofs.StandLaws.{Stands, answer_of, are_filled, are_whole, columns_at-append, filled-append, standing, standing-append, stands_from, whole-append}
 use Rattle.plan_exec.proofs.WideLaws.{by_none, empty_filled, fits-append, row_of-append}
-use Rattle.plan_exec.specs.Merges.{joined_table, merged_table, pair_meeting, pairs_of_row, pairs_table}
+use Rattle.plan_exec.specs.Merges.{joined_table, pair_meeting, pairs_of_row}
 use Rattle.plan_exec.specs.Runs.{heading}
 use Rattle.plan_exec.specs.Tables.{any_of, column_under, columns_at, columns_under, headings, is_false}
 use Rattle.vra_syntax.specs.declared.cond.Cond.{Cond}

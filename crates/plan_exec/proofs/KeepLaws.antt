@@ -1,25 +1,24 @@
 -- The columns and cells that items keep.
-use Rattle.std.proofs.Common.{◌≡◌, ◌∙◌, ℕ, zero, suc, ◌+◌, ◌==◌, Bool, true, false, not, ◌&&◌, List, [], ◌∷◌, ◌++◌, map, filter, length, length-append, Option, Some, None, if◌then◌else◌, refl, sym, ap, ap₂, subst, true≢false, arith, eq-eqb}
+use Rattle.std.proofs.Common.{◌≡◌, ◌∙◌, ℕ, ◌==◌, Bool, true, false, ◌&&◌, List, [], ◌∷◌, ◌++◌, map, filter, length, length-append, Option, Some, None, if◌then◌else◌, refl, sym, ap, ap₂, subst, true≢false, arith, eq-eqb}
 use Rattle.std.proofs.lemmas.Bool.{eqb-true}
 use Rattle.std.proofs.lemmas.List.{length-map, map-append}
-use Rattle.std.specs.List.{filter_map, flat_map}
-use Rattle.feature_expr.specs.Expressions.{and_of}
+use Rattle.std.specs.List.{flat_map}
 use Rattle.feature_expr.specs.Satisfaction.{satisfies}
 use Rattle.feature_expr.specs.declared.expr.Expr.{Expr}
 use Rattle.values.specs.Value.{kind_of}
 use Rattle.values.specs.declared.value.Value.{Value}
-use Rattle.plain_relation.specs.Relations.{Cell, Column, Relation, relation_with, row_of, same_name}
+use Rattle.plain_relation.specs.Relations.{Cell, Column, relation_with, row_of, same_name}
 use Rattle.plain_relation.specs.Values.{same_kind}
-use Rattle.relational_algebra.specs.Columns.{in_order_of, named, once, renamed}
+use Rattle.relational_algebra.specs.Columns.{in_order_of, once}
 use Rattle.relational_algebra.specs.Items.{cells_kept_by, given, is_kept, kept, kept_by, kept_cells, picked, possible_kept, renamed_cell}
 use Rattle.relational_algebra.specs.Operations.{projected, relation_by}
-use Rattle.row_conditions.proofs.BoolLaws.{and_false, and_first, and_second, and_true}
+use Rattle.row_conditions.proofs.BoolLaws.{and_first, and_second}
 use Rattle.row_conditions.proofs.FoldingLaws.{and_holds}
 use Rattle.plan_exec.proofs.MemberLaws.{both}
 use Rattle.plan_exec.proofs.MergeLaws.{merge_answers, merge_formed}
 use Rattle.plan_exec.proofs.StandLaws.{Stands, answer_of, are_filled, are_whole, columns_at-append, standing, stands_from}
 use Rattle.plan_exec.proofs.WideLaws.{by_none, fits-append, row_of-append}
-use Rattle.plan_exec.specs.Merges.{cells_of_item, column_of_item, columns_of_item, cond_of_item, items_table, kept_table, merged_table, row_of_items}
+use Rattle.plan_exec.specs.Merges.{cells_of_item, columns_of_item, cond_of_item, kept_table, row_of_items}
 use Rattle.plan_exec.specs.Runs.{heading}
 use Rattle.plan_exec.specs.Tables.{columns_at, headings}
 use Rattle.vra_syntax.specs.declared.items.Item.{Item}

@@ -1,18 +1,17 @@
 -- Cells that are looked up by name and kind and laid under other columns are the same row, in those columns' order, in each
 -- variant in which every column that is there now was there before.
-use Rattle.std.proofs.Common.{◌≡◌, ◌∙◌, ℕ, Bool, true, false, not, ◌&&◌, ◌||◌, List, [], ◌∷◌, ◌++◌, map, length, Option, Some, None, if◌then◌else◌, refl, sym, ap, ap₂, subst, true≢false, ◌⊎◌, inl, inr}
-use Rattle.std.specs.List.{list_any}
+use Rattle.std.proofs.Common.{◌≡◌, ◌∙◌, ℕ, Bool, true, false, not, ◌&&◌, ◌||◌, List, [], ◌∷◌, map, Option, Some, None, if◌then◌else◌, refl, sym, ap, subst, true≢false, inl, inr}
 use Rattle.feature_expr.specs.Satisfaction.{satisfies}
 use Rattle.values.specs.Value.{kind_of}
 use Rattle.values.specs.declared.column_name.ColName.{ColName}
 use Rattle.values.specs.declared.value.Value.{Value}
-use Rattle.plain_relation.specs.Relations.{Cell, Column, cell_of, columns_of, has_name, row_of, same_name}
+use Rattle.plain_relation.specs.Relations.{Column, cell_of, has_name, row_of, same_name}
 use Rattle.plain_relation.specs.Values.{same_kind}
 use Rattle.relational_algebra.specs.Columns.{among, same_column}
-use Rattle.relational_algebra.specs.Operations.{cell_by, laid}
+use Rattle.relational_algebra.specs.Operations.{laid}
 use Rattle.row_conditions.proofs.BoolLaws.{and_first, and_second, not_true, or_cases, or_end, or_start}
 use Rattle.row_conditions.proofs.NameLaws.{name_is, name_same}
-use Rattle.row_conditions.specs.Truths.{Slot, slots_of}
+use Rattle.row_conditions.specs.Truths.{slots_of}
 use Rattle.plan_exec.proofs.MemberLaws.{among_named, both, column_is, column_same, once_parts}
 use Rattle.plan_exec.specs.Runs.{heading}
 use Rattle.plan_exec.specs.Tables.{cell_under, columns_at, headings, laid_cells, once_each}

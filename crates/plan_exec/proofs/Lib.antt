@@ -18,4 +18,6 @@ pub mod KeepLaws
 pub mod AliasLaws
 pub mod JoinLaws
 pub mod StepLaws
+pub mod FeatureLaws
 pub mod RunLaws
+pub mod ScanLaws

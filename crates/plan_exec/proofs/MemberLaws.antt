@@ -1,12 +1,10 @@
 -- Columns among others: each once, of distinct names, and in the order of others.
-use Rattle.std.proofs.Common.{◌≡◌, ◌∙◌, ℕ, Bool, true, false, not, ◌&&◌, ◌||◌, List, [], ◌∷◌, ◌++◌, map, filter, fold, Option, Some, None, if◌then◌else◌, refl, sym, ap, ap₂, subst, true≢false, ◌⊎◌, inl, inr}
-use Rattle.std.specs.List.{list_any, list_all}
+use Rattle.std.proofs.Common.{◌≡◌, ◌∙◌, Bool, true, false, not, ◌&&◌, List, [], ◌∷◌, ◌++◌, refl, sym, ap, ap₂, subst, true≢false, ◌⊎◌, inl, inr}
 use Rattle.values.specs.declared.column_name.ColName.{ColName}
 use Rattle.values.specs.declared.value.Kind.{Kind}
 use Rattle.plain_relation.specs.Relations.{Column, has_name, same_name}
-use Rattle.plain_relation.specs.Values.{same_kind}
-use Rattle.relational_algebra.specs.Columns.{among, in_order_of, once, repeated, same_column, same_columns, with_column}
-use Rattle.row_conditions.proofs.BoolLaws.{and_first, and_second, neither, not_true, or_cases, or_end, or_start, true_or_false}
+use Rattle.relational_algebra.specs.Columns.{among, in_order_of, once, same_column}
+use Rattle.row_conditions.proofs.BoolLaws.{and_first, and_second, not_true, or_cases, or_end, or_start, true_or_false}
 use Rattle.row_conditions.proofs.NameLaws.{name_is, name_same, kind_is, kind_same}
 use Rattle.plan_exec.specs.Tables.{once_each}
 use Rattle.vtable.specs.Answers.{names_are_distinct}

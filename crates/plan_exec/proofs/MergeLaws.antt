@@ -1,19 +1,17 @@
 -- A table in which each name and kind is put together says, in each variant, what it said before.
-use Rattle.std.proofs.Common.{◌≡◌, ◌∙◌, ℕ, zero, suc, ◌+◌, ◌≤◌, ◌==◌, Bool, true, false, not, ◌&&◌, ◌||◌, List, [], ◌∷◌, ◌++◌, map, length, Option, Some, None, if◌then◌else◌, refl, sym, ap, ap₂, subst, true≢false, eq-eqb, arith}
+use Rattle.std.proofs.Common.{◌≡◌, ◌∙◌, ℕ, ◌==◌, Bool, true, false, ◌&&◌, List, [], ◌∷◌, ◌++◌, map, length, Option, if◌then◌else◌, refl, sym, ap, ap₂, subst, eq-eqb}
 use Rattle.std.proofs.lemmas.Bool.{eqb-true}
 use Rattle.std.proofs.lemmas.List.{length-map}
-use Rattle.std.specs.List.{filter_map, flat_map}
+use Rattle.std.specs.List.{flat_map}
 use Rattle.feature_expr.specs.Expressions.{and_of}
 use Rattle.feature_expr.specs.Satisfaction.{satisfies}
-use Rattle.feature_expr.specs.declared.expr.Expr.{Expr}
 use Rattle.values.specs.declared.column_name.ColName.{ColName}
 use Rattle.values.specs.declared.value.Value.{Value}
-use Rattle.plain_relation.specs.Relations.{Cell, Column, Relation, relation_with, row_of}
+use Rattle.plain_relation.specs.Relations.{relation_with, row_of}
 use Rattle.relational_algebra.specs.Columns.{among, in_order_of, once}
 use Rattle.relational_algebra.specs.Operations.{laid, relation_by}
 use Rattle.row_conditions.proofs.BoolLaws.{and_false, and_first, and_second}
 use Rattle.row_conditions.proofs.FoldingLaws.{and_holds}
-use Rattle.row_conditions.specs.Truths.{slots_of}
 use Rattle.plan_exec.proofs.LayLaws.{IsWithinAt, lay_fits, lay_row}
 use Rattle.plan_exec.proofs.MemberLaws.{among_ordered, both, one_each, ordered_distinct}
 use Rattle.plan_exec.proofs.RankLaws.{all_give, given_by, ranks_there}
@@ -21,15 +19,12 @@ use Rattle.plan_exec.proofs.RowLaws.{under_filled, under_stands, under_whole}
 use Rattle.plan_exec.proofs.SettleLaws.{once_once, settled_at}
 use Rattle.plan_exec.proofs.StandLaws.{Stands, answer_is, are_filled, are_whole, filled-append, standing, standing-append, stands_as, whole-append}
 use Rattle.plan_exec.proofs.TakenLaws.{AllOf, TakenIfThere, all_taken, one_is, taken_columns, taken_fits, taken_once, taken_row}
-use Rattle.plan_exec.specs.Merges.{all_ways, cells_taken, merged_table, ranked, repeated_names, row_taken, rows_taken, taken}
-use Rattle.plan_exec.specs.declared.way.Ranked.{Ranked}
+use Rattle.plan_exec.specs.Merges.{all_ways, cells_taken, merged_table, ranked, repeated_names, rows_taken, taken}
 use Rattle.plan_exec.specs.declared.way.Way.{Way}
-use Rattle.plan_exec.specs.Runs.{heading}
-use Rattle.plan_exec.specs.Tables.{columns_at, headings, is_false, laid_cells, once_each, settled}
+use Rattle.plan_exec.specs.Tables.{columns_at, headings, is_false, settled}
 use Rattle.vtable.specs.Answers.{IsAnswerAt, answer_at, column_at, fits, names_are_distinct}
 use Rattle.vtable.specs.declared.table.VColumn.{VColumn}
 use Rattle.vtable.specs.declared.table.VRow.{VRow}
-use Rattle.vtable.specs.declared.table.VTable.{VTable}
 
 -- a row whose columns are taken, under its own condition
 abbrev row_by : List VColumn → List VColumn → List (ColName × ℕ) → VRow → VRow

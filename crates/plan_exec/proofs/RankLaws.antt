@@ -1,26 +1,21 @@
 -- Of the columns of a name, all that are there in a variant have one rank.
-use Rattle.std.proofs.Common.{◌≡◌, ◌∙◌, ℕ, zero, suc, ◌+◌, ◌≤◌, ◌<◌, ◌≢◌, ◌==◌, max, Bool, true, false, not, ◌&&◌, ◌||◌, List, [], ◌∷◌, ◌++◌, map, filter, fold, length, Option, Some, None, if◌then◌else◌, refl, sym, ap, ap₂, subst, true≢false, ◌⊎◌, inl, inr, eq-eqb, arith}
+use Rattle.std.proofs.Common.{◌≡◌, ◌∙◌, ℕ, zero, suc, ◌≤◌, ◌≢◌, ◌==◌, Bool, true, false, not, ◌&&◌, ◌||◌, List, [], ◌∷◌, ◌++◌, map, fold, if◌then◌else◌, refl, sym, ap, ap₂, subst, true≢false, inl, inr, eq-eqb, arith}
 use Rattle.std.proofs.lemmas.Bool.{eqb-true}
 use Rattle.std.proofs.lemmas.List.Concat.{flat_map-append}
-use Rattle.std.specs.List.{flat_map, list_all, list_any}
-use Rattle.feature_expr.specs.Expressions.{and_of, not_of, or_of}
+use Rattle.std.specs.List.{flat_map, list_any}
+use Rattle.feature_expr.specs.Expressions.{and_of, not_of}
 use Rattle.feature_expr.specs.Satisfaction.{satisfies}
 use Rattle.feature_expr.specs.declared.expr.Expr.{Expr}
 use Rattle.feature_expr.specs.declared.expr.Expr as e
 use Rattle.values.specs.declared.column_name.ColName.{ColName}
-use Rattle.plain_relation.specs.Relations.{Column, has_name, same_name}
-use Rattle.relational_algebra.specs.Columns.{same_column}
-use Rattle.row_conditions.proofs.BoolLaws.{and_false, and_first, and_second, and_true, neither, not_true, or_assoc, or_cases, or_end, or_false, or_start, true_or_false}
+use Rattle.plain_relation.specs.Relations.{same_name}
+use Rattle.row_conditions.proofs.BoolLaws.{and_false, and_first, and_second, and_true, neither, not_true, or_assoc, or_cases, or_false}
 use Rattle.row_conditions.proofs.FoldingLaws.{and_holds, holds_False, holds_True, not_holds}
-use Rattle.row_conditions.proofs.NameLaws.{name_is, name_same}
+use Rattle.row_conditions.proofs.NameLaws.{name_is}
 use Rattle.plan_exec.proofs.SettleLaws.{once_holds}
-use Rattle.plan_exec.specs.Runs.{heading}
-use Rattle.plan_exec.specs.Tables.{columns_at}
-use Rattle.plan_exec.specs.Merges.{all_ways, last_rank, none_ranked, rank_cond, rank_in, ranked, ranked_behind, repeated_names, way_with, ways_of, ways_ranked, with_name, with_rank}
+use Rattle.plan_exec.specs.Merges.{all_ways, last_rank, none_ranked, rank_cond, way_with, ways_of, ways_ranked, with_rank}
 use Rattle.plan_exec.specs.declared.way.Ranked.{Ranked}
 use Rattle.plan_exec.specs.declared.way.Way.{Way}
-use Rattle.vtable.specs.Answers.{names_are_distinct}
-use Rattle.vtable.specs.declared.table.VColumn.{VColumn}
 
 -- whether a column of the name is there
 abbrev pub named_there : List ℕ → ColName → Ranked → Bool

@@ -1,7 +1,7 @@
 -- A row that is made under a condition stands where the condition holds.
-use Rattle.std.proofs.Common.{◌≡◌, ◌∙◌, ℕ, ◌==◌, Bool, true, false, not, ◌&&◌, ◌||◌, List, [], ◌∷◌, ◌++◌, map, filter, length, Option, Some, None, if◌then◌else◌, refl, sym, ap, ap₂, subst, true≢false, eq-eqb}
+use Rattle.std.proofs.Common.{◌≡◌, ◌∙◌, ℕ, ◌==◌, Bool, true, false, not, ◌&&◌, List, [], ◌∷◌, map, length, Option, Some, None, if◌then◌else◌, refl, sym, ap, ap₂, true≢false, eq-eqb}
 use Rattle.std.proofs.lemmas.List.{length-map}
-use Rattle.std.specs.List.{cons_option, filter_map, list_any}
+use Rattle.std.specs.List.{cons_option}
 use Rattle.feature_expr.specs.Expressions.{and_of}
 use Rattle.feature_expr.specs.Satisfaction.{satisfies, holds_at}
 use Rattle.feature_expr.specs.declared.expr.Expr.{Expr, fold-Expr, map-Expr, out-Expr}
@@ -17,7 +17,7 @@ use Rattle.row_conditions.specs.Truths.{slots_of}
 use Rattle.plan_exec.proofs.LayLaws.{IsWithinAt, lay_fits, lay_row}
 use Rattle.plan_exec.proofs.MemberLaws.{both}
 use Rattle.plan_exec.proofs.StandLaws.{are_filled, are_whole, standing}
-use Rattle.plan_exec.specs.Tables.{columns_at, false_layer, headings, is_false, laid_cells, once_each, row_laid, row_under, rows_laid}
+use Rattle.plan_exec.specs.Tables.{columns_at, false_layer, headings, is_false, laid_cells, once_each, row_under, rows_laid}
 use Rattle.vtable.specs.Answers.{column_at, fits, names_are_distinct}
 use Rattle.vtable.specs.declared.table.VColumn.{VColumn}
 use Rattle.vtable.specs.declared.table.VRow.{VRow}

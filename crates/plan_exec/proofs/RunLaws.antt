@@ -1,5 +1,5 @@
 -- The table that a plan makes is, in each variant in which the configured plan has a plain type, what that plan means.
-use Rattle.std.proofs.Common.{◌≡◌, ◌∙◌, ℕ, ◌==◌, Bool, true, false, not, ◌&&◌, ◌||◌, List, [], ◌∷◌, ◌++◌, map, find, Option, Some, None, if◌then◌else◌, refl, sym, ap, ap₂, subst, true≢false}
+use Rattle.std.proofs.Common.{◌≡◌, ◌∙◌, ℕ, ◌==◌, Bool, true, false, ◌||◌, List, [], ◌∷◌, ◌++◌, map, Option, Some, None, if◌then◌else◌, refl, sym, ap, ap₂, subst, true≢false}
 use Rattle.std.specs.List.{AllByRecursion, flat_map, list_any}
 use Rattle.condition_sat.specs.Admitted.{IsAdmitted}
 use Rattle.feature_expr.specs.Satisfaction.{satisfies}
@@ -12,22 +12,22 @@ use Rattle.relational_algebra.specs.Operations.{aliased_relation, chosen, except
 use Rattle.query_meaning.specs.Cases.{Case, case}
 use Rattle.query_meaning.specs.declared.ill.IllCase.TheVariants as ill
 use Rattle.query_meaning.specs.Meaning.{MeantPart, plan_meaning, plan_meaning_step}
-use Rattle.query_meaning.specs.PlainTypes.{PlainType, Ill, Columns, TypedPart, absent_in_items, alias_type, cases_of, chosen_type, columns_differ, columns_in, except_type, join_type, or_cases, over, over_both, select_type, twice, union_type, unless, where_any}
-use Rattle.query_meaning.specs.Plans.{IsSound, not_asked, plan_possible, plan_possible_step, plan_type, plan_type_step}
-use Rattle.query_meaning.specs.Sources.{Source}
+use Rattle.query_meaning.specs.PlainTypes.{PlainType, Ill, Columns, TypedPart, absent_in_items, alias_type, cases_of, chosen_type, columns_differ, columns_in, except_type, join_type, over, over_both, select_type, twice, union_type, unless, where_any}
+use Rattle.query_meaning.specs.Plans.{not_asked, plan_possible, plan_possible_step, plan_type, plan_type_step}
 use Rattle.query_meaning.specs.declared.plan.Plan.{Plan, fold-Plan, map-Plan, roll-Plan}
 use Rattle.query_meaning.specs.declared.plan.Plan.TheFolds.{fold-roll-Plan, ind-Plan}
 use Rattle.query_meaning.specs.declared.plan.Plan.TheOpen.{Plan-F}
 use Rattle.plan_exec.proofs.AliasLaws.{alias_answers, alias_columns, alias_formed, alias_headings}
 use Rattle.plan_exec.proofs.ChoiceLaws.{headings_under, left_answers, left_formed, right_answers, right_formed, to_is}
 use Rattle.plan_exec.proofs.ExceptLaws.{except_answers, except_formed}
+use Rattle.plan_exec.proofs.FeatureLaws.{run_known}
 use Rattle.plan_exec.proofs.FilterLaws.{filter_answers, filter_formed}
 use Rattle.plan_exec.proofs.JoinLaws.{join_answers, join_formed, wide_at}
 use Rattle.plan_exec.proofs.KeepLaws.{kept_none, items_columns, items_headings, keep_answers, keep_formed}
 use Rattle.plan_exec.proofs.StandLaws.{columns_at-append}
 use Rattle.plan_exec.proofs.SettleLaws.{settled_at, settled_headings, settled_once}
 use Rattle.plan_exec.proofs.UnionLaws.{union_answers, union_formed}
-use Rattle.plan_exec.specs.Merges.{aliased_column, aliased_table, columns_of_item, joined_table, kept_table, pairs_table}
+use Rattle.plan_exec.specs.Merges.{aliased_column, aliased_table, columns_of_item, joined_table, kept_table}
 use Rattle.plan_exec.specs.RunTables.{empty_table, run_step, run_table, table_by}
 use Rattle.plan_exec.specs.Runs.{CanRun, IsMeaningOf, IsStored, database_of, heading, relation_by, rows_of, rows_source, source_by}
 use Rattle.plan_exec.specs.Tables.{any_of, chosen_table, columns_at, columns_under, excepted_table, filtered_table, headings, once_each, united_table}
@@ -434,6 +434,7 @@ run_means model tables p table can is = subst (IsMeaningOf model tables p) (sym 
   columns = sym (run_possible tables p);
   formed = λ c admitted. (answered c admitted).answer;
   means = λ c admitted. same_itself _ _ (answered c admitted).means;
+  features = λ feature. run_known feature tables p;
 })
   where
     answered : (c : List ℕ) (admitted : IsAdmitted model c) → Answered c (run_table tables p) (plan_type c (rows_source tables) p) (plan_meaning c (rows_source tables) (database_of tables c) p)

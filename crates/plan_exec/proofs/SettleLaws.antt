@@ -1,9 +1,7 @@
 -- Columns put together: each pair of name and kind once, and there in just the variants in which one of them is.
-use Rattle.std.proofs.Common.{◌≡◌, ◌∙◌, ℕ, Bool, true, false, not, ◌&&◌, ◌||◌, List, [], ◌∷◌, ◌++◌, map, filter, fold, Option, Some, None, if◌then◌else◌, refl, sym, ap, ap₂, subst, true≢false, ◌⊎◌, inl, inr, append-nil}
+use Rattle.std.proofs.Common.{◌≡◌, ◌∙◌, ℕ, Bool, true, false, ◌||◌, List, [], ◌∷◌, ◌++◌, fold, if◌then◌else◌, refl, sym, ap, ap₂, true≢false}
 use Rattle.std.proofs.lemmas.List.{map-append}
 use Rattle.std.proofs.lemmas.List.Elements.{filter-append}
-use Rattle.std.specs.List.{list_any}
-use Rattle.feature_expr.specs.Expressions.{and_of, or_of}
 use Rattle.feature_expr.specs.Same.{same_expr}
 use Rattle.feature_expr.specs.SameLaws.{same_yes}
 use Rattle.feature_expr.specs.Satisfaction.{satisfies}
@@ -11,12 +9,12 @@ use Rattle.feature_expr.specs.declared.expr.Expr.{Expr}
 use Rattle.feature_expr.specs.declared.expr.Expr as e
 use Rattle.plain_relation.specs.Relations.{Column}
 use Rattle.relational_algebra.specs.Columns.{among, in_order_of, once, same_column, with_column}
-use Rattle.row_conditions.proofs.BoolLaws.{or_assoc, or_cases, or_end, or_false, or_start}
+use Rattle.row_conditions.proofs.BoolLaws.{or_assoc, or_false, or_start}
 use Rattle.row_conditions.proofs.FoldingLaws.{and_holds, or_holds, holds_False}
-use Rattle.plan_exec.proofs.MemberLaws.{column_is, column_same, once_parts, same_back}
+use Rattle.plan_exec.proofs.MemberLaws.{once_parts, same_back}
 use Rattle.plan_exec.proofs.StandLaws.{columns_at-append}
 use Rattle.plan_exec.specs.Runs.{heading}
-use Rattle.plan_exec.specs.Tables.{any_of, column_cond, column_under, columns_at, columns_under, headings, once_each, or_once, settled, settled_column, with_column_cond, with_settled}
+use Rattle.plan_exec.specs.Tables.{any_of, column_cond, columns_at, columns_under, headings, once_each, or_once, settled, settled_column, with_column_cond, with_settled}
 use Rattle.vtable.specs.declared.table.VColumn.{VColumn}
 
 same_is : (one other : Expr) → same_expr one other ≡ true → one ≡ other

@@ -1,14 +1,12 @@
 -- The rows that stand in a variant, and the answer that they make.
-use Rattle.std.proofs.Common.{◌≡◌, ◌∙◌, ℕ, ◌+◌, ◌≤◌, ◌==◌, Bool, true, false, not, ◌&&◌, ◌||◌, List, [], ◌∷◌, ◌++◌, map, filter, length, Option, Some, None, if◌then◌else◌, refl, sym, ap, ap₂, subst, true≢false}
-use Rattle.std.specs.List.{list_any, list_all}
+use Rattle.std.proofs.Common.{◌≡◌, ◌∙◌, ℕ, ◌==◌, Bool, true, false, ◌&&◌, List, [], ◌∷◌, ◌++◌, map, filter, length, if◌then◌else◌, refl, sym, ap, true≢false}
+use Rattle.std.specs.List.{list_all}
 use Rattle.feature_expr.specs.Satisfaction.{satisfies}
-use Rattle.values.specs.declared.value.Value.{Value}
-use Rattle.plain_relation.specs.Relations.{Cell, Column, Relation, columns_of, relation_of, relation_with, row_of}
-use Rattle.plain_relation.specs.Relations as plain
+use Rattle.plain_relation.specs.Relations.{Cell, relation_with, row_of}
 use Rattle.row_conditions.proofs.BoolLaws.{and_first, and_second}
-use Rattle.plan_exec.specs.Tables.{columns_at, headings}
+use Rattle.plan_exec.specs.Tables.{columns_at}
 use Rattle.plan_exec.specs.Runs.{heading}
-use Rattle.vtable.specs.Answers.{IsAnswerAt, answer_at, column_at, fits, is_whole, names_are_distinct, places_at, rows_at}
+use Rattle.vtable.specs.Answers.{IsAnswerAt, answer_at, column_at, fits, is_whole, names_are_distinct}
 use Rattle.vtable.specs.declared.table.VColumn.{VColumn}
 use Rattle.vtable.specs.declared.table.VRow.{VRow}
 use Rattle.vtable.specs.declared.table.VTable.{VTable}

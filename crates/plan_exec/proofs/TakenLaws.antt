@@ -1,19 +1,19 @@
 -- Where of each name the columns of the rank are taken that is there, all columns that are there are taken, and none of
 -- one name and kind twice.
-use Rattle.std.proofs.Common.{◌≡◌, ◌∙◌, ℕ, zero, suc, ◌+◌, ◌≤◌, ◌<◌, ◌≢◌, ◌==◌, max, Bool, true, false, not, ◌&&◌, ◌||◌, List, [], ◌∷◌, ◌++◌, map, fold, length, Option, Some, None, if◌then◌else◌, refl, sym, ap, ap₂, subst, true≢false, ◌⊎◌, inl, inr, eq-eqb, arith}
+use Rattle.std.proofs.Common.{◌≡◌, ◌∙◌, ℕ, ◌+◌, ◌≤◌, ◌<◌, ◌==◌, Bool, true, false, not, ◌||◌, List, [], ◌∷◌, ◌++◌, map, fold, length, Option, Some, None, if◌then◌else◌, refl, sym, ap, subst, true≢false, eq-eqb, arith}
 use Rattle.std.proofs.lemmas.Bool.{eqb-true}
 use Rattle.std.proofs.lemmas.List.Folds.{list_any-append}
 use Rattle.std.specs.List.{list_any}
 use Rattle.feature_expr.specs.Satisfaction.{satisfies}
 use Rattle.values.specs.declared.column_name.ColName.{ColName}
 use Rattle.values.specs.declared.value.Value.{Value}
-use Rattle.plain_relation.specs.Relations.{Cell, Column, has_name, row_of, same_name}
+use Rattle.plain_relation.specs.Relations.{Column, has_name, row_of, same_name}
 use Rattle.relational_algebra.specs.Columns.{among, same_column}
-use Rattle.row_conditions.proofs.BoolLaws.{and_first, and_second, neither, not_true, or_cases, or_end, or_false, or_start, true_or_false}
+use Rattle.row_conditions.proofs.BoolLaws.{and_first, and_second, neither, not_true, or_end, or_start}
 use Rattle.row_conditions.proofs.NameLaws.{name_is, name_same}
 use Rattle.plan_exec.proofs.MemberLaws.{both, column_is, column_same}
 use Rattle.plan_exec.proofs.RankLaws.{named_there, one_there, rank_there, ranks_there}
-use Rattle.plan_exec.specs.Merges.{count_same, is_taken, rank_in, ranked, ranked_behind, repeated_names, taken, with_name}
+use Rattle.plan_exec.specs.Merges.{count_same, is_taken, rank_in, ranked_behind, repeated_names, taken, with_name}
 use Rattle.plan_exec.specs.declared.way.Ranked.{Ranked}
 use Rattle.plan_exec.specs.Runs.{heading}
 use Rattle.plan_exec.specs.Tables.{columns_at, headings, once_each}

@@ -1,22 +1,18 @@
 -- The rows of either side, and those of the side that a variant chooses.
-use Rattle.std.proofs.Common.{◌≡◌, ◌∙◌, ℕ, ◌==◌, Bool, true, false, not, ◌&&◌, ◌||◌, List, [], ◌∷◌, ◌++◌, map, filter, length, Option, Some, None, if◌then◌else◌, refl, sym, ap, ap₂, subst, true≢false, ◌⊎◌, inl, inr, append-nil}
+use Rattle.std.proofs.Common.{◌≡◌, ◌∙◌, ℕ, Bool, true, false, List, [], ◌∷◌, ◌++◌, map, length, if◌then◌else◌, refl, sym, ap, ap₂, subst, true≢false, inl, inr, append-nil}
 use Rattle.std.proofs.lemmas.List.{map-append}
-use Rattle.std.specs.List.{list_all, list_any}
-use Rattle.feature_expr.specs.Expressions.{and_of, not_of}
+use Rattle.std.specs.List.{list_all}
 use Rattle.feature_expr.specs.Satisfaction.{satisfies}
-use Rattle.feature_expr.specs.declared.expr.Expr.{Expr}
-use Rattle.plain_relation.specs.Relations.{Cell, Column, Relation, relation_with, row_of}
+use Rattle.plain_relation.specs.Relations.{Cell, Column, relation_with}
 use Rattle.query_meaning.specs.PlainTypes.{columns_differ}
 use Rattle.relational_algebra.specs.Columns.{among, in_order_of, merged, once, same_column, same_columns}
-use Rattle.relational_algebra.specs.Operations.{chosen, laid, relation_by, united}
+use Rattle.relational_algebra.specs.Operations.{laid, united}
 use Rattle.row_conditions.proofs.BoolLaws.{and_first, and_second, or_cases}
-use Rattle.row_conditions.proofs.FoldingLaws.{not_holds}
-use Rattle.plan_exec.proofs.LayLaws.{IsWithinAt}
 use Rattle.plan_exec.proofs.MemberLaws.{IsOneEach, among_append, among_ordered, column_is, one_each, ordered_distinct}
 use Rattle.plan_exec.proofs.RowLaws.{CanLay, laid_filled, laid_standing, laid_whole}
-use Rattle.plan_exec.proofs.SettleLaws.{any_holds, is_some_column, once_once, settled_at, under_is}
-use Rattle.plan_exec.proofs.StandLaws.{Stands, answer_is, answer_of, are_filled, are_whole, columns_at-append, filled-append, standing, standing-append, stands_as, stands_from, whole-append}
-use Rattle.plan_exec.specs.Tables.{any_of, chosen_table, columns_at, columns_under, headings, once_each, rows_laid, settled, united_table}
+use Rattle.plan_exec.proofs.SettleLaws.{any_holds, is_some_column, once_once, settled_at}
+use Rattle.plan_exec.proofs.StandLaws.{answer_is, answer_of, columns_at-append, filled-append, standing, standing-append, stands_as, stands_from, whole-append}
+use Rattle.plan_exec.specs.Tables.{any_of, columns_at, headings, once_each, rows_laid, settled, united_table}
 use Rattle.vtable.specs.Answers.{IsAnswerAt, answer_at, names_are_distinct}
 use Rattle.vtable.specs.declared.table.VColumn.{VColumn}
 use Rattle.vtable.specs.declared.table.VRow.{VRow}

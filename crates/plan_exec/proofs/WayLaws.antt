@@ -1,5 +1,5 @@
 -- What the loops over ranks and ways make.
-use Rattle.std.proofs.Common.{◌≡◌, ◌∙◌, ℕ, zero, suc, ◌+◌, ◌≤◌, ◌<◌, max, Bool, true, false, List, [], ◌∷◌, ◌++◌, map, length, take, get_or, Option, Some, None, if◌then◌else◌, refl, sym, ap, ap₂, subst, true≢false, append_assoc, append-nil, arith}
+use Rattle.std.proofs.Common.{◌≡◌, ◌∙◌, ℕ, suc, ◌+◌, ◌<◌, max, Bool, true, false, List, [], ◌∷◌, ◌++◌, map, length, take, get_or, Option, if◌then◌else◌, refl, sym, ap, ap₂, append_assoc, arith}
 use Rattle.std.proofs.lemmas.List.{map-append, take_more}
 use Rattle.std.specs.List.{cons_option, filter_map, flat_map}
 use Rattle.feature_expr.specs.Expressions.{and_of, not_of}
@@ -9,8 +9,8 @@ use Rattle.values.specs.declared.column_name.ColName.{ColName}
 use Rattle.values.specs.declared.value.Value.{Value}
 use Rattle.plain_relation.specs.Relations.{Column, same_name}
 use Rattle.relational_algebra.specs.Columns.{same_column}
-use Rattle.row_conditions.specs.Truths.{Slot, slots_of}
-use Rattle.plan_exec.specs.Merges.{all_ways, cells_taken, count_same, is_taken, last_rank, merged_table, none_ranked, rank_cond, ranked, ranked_behind, ranked_headings, repeated_names, row_by_slots, row_taken, rows_by_slots, rows_taken, taken, taken_slots, way_with, ways_of, ways_ranked, with_ways}
+use Rattle.row_conditions.specs.Truths.{slots_of}
+use Rattle.plan_exec.specs.Merges.{all_ways, count_same, is_taken, last_rank, merged_table, none_ranked, rank_cond, ranked, ranked_behind, ranked_headings, repeated_names, row_by_slots, row_taken, rows_by_slots, rows_taken, taken, taken_slots, way_with, ways_of, ways_ranked, with_ways}
 use Rattle.plan_exec.specs.Runs.{heading}
 use Rattle.plan_exec.specs.Tables.{laid_cells, row_under, settled}
 use Rattle.plan_exec.specs.declared.way.Ranked.{Ranked}

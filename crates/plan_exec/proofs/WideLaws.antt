@@ -1,10 +1,10 @@
 -- Rows that are put together of parts, and relations without columns.
-use Rattle.std.proofs.Common.{◌≡◌, ◌∙◌, ℕ, zero, suc, ◌+◌, ◌==◌, Bool, true, false, not, ◌&&◌, List, [], ◌∷◌, ◌++◌, map, length, Option, Some, None, if◌then◌else◌, refl, sym, ap, ap₂, subst, true≢false, arith, eq-eqb}
+use Rattle.std.proofs.Common.{◌≡◌, ◌∙◌, ℕ, ◌==◌, Bool, true, false, List, [], ◌∷◌, ◌++◌, map, length, Option, Some, None, refl, sym, ap, true≢false, arith}
 use Rattle.std.proofs.lemmas.Bool.{eqb-true}
 use Rattle.feature_expr.specs.Satisfaction.{satisfies}
 use Rattle.values.specs.Value.{kind_of}
 use Rattle.values.specs.declared.value.Value.{Value}
-use Rattle.plain_relation.specs.Relations.{Cell, Column, Relation, columns_of, relation_with, row_of}
+use Rattle.plain_relation.specs.Relations.{Cell, Column, row_of}
 use Rattle.plain_relation.specs.Values.{same_kind}
 use Rattle.relational_algebra.specs.Columns.{in_order_of}
 use Rattle.relational_algebra.specs.Operations.{relation_by}

@@ -1,8 +1,8 @@
 -- What items, an alias and a join make of tables: first the columns and cells as they come, of which several may have one
 -- name and kind, and then each name and kind once.
-use Rattle.std.specs.Prelude.{ℕ, zero, suc, ◌+◌, ◌==◌, max, ◌≡◌, Bool, true, false, ◌&&◌, List, [], ◌∷◌, ◌++◌, fold, map, filter, Option, Some, None, if◌then◌else◌}
+use Rattle.std.specs.Prelude.{ℕ, zero, suc, ◌+◌, ◌==◌, max, Bool, ◌&&◌, List, [], ◌∷◌, ◌++◌, fold, map, Option, Some, None, if◌then◌else◌}
 use Rattle.std.specs.List.{filter_map, flat_map, list_any}
-use Rattle.feature_expr.specs.Expressions.{and_of, or_of, not_of}
+use Rattle.feature_expr.specs.Expressions.{and_of, not_of}
 use Rattle.feature_expr.specs.declared.expr.Expr.{Expr}
 use Rattle.feature_expr.specs.declared.expr.Expr as e
 use Rattle.values.specs.declared.column_name.ColName.{ColName}

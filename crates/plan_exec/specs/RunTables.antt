@@ -1,5 +1,5 @@
 -- The table that a plan makes of the tables handed in, in all variants at once.
-use Rattle.std.specs.Prelude.{ℕ, List, [], ◌∷◌, Option, Some, None}
+use Rattle.std.specs.Prelude.{List, [], ◌∷◌, Option, Some, None}
 use Rattle.plan_exec.specs.Merges.{aliased_table, joined_table, kept_table}
 use Rattle.plan_exec.specs.Runs.{rows_of}
 use Rattle.plan_exec.specs.Tables.{chosen_table, excepted_table, filtered_table, united_table}

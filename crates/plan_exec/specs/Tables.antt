@@ -1,6 +1,6 @@
 -- What the operators make of tables, in all variants at once.
-use Rattle.std.specs.Prelude.{ℕ, ◌≡◌, Bool, true, false, ◌&&◌, List, [], ◌∷◌, ◌++◌, fold, map, filter, Option, Some, None, if◌then◌else◌}
-use Rattle.std.specs.List.{filter_map, flat_map, list_any}
+use Rattle.std.specs.Prelude.{ℕ, Bool, true, false, List, [], ◌∷◌, ◌++◌, fold, map, Option, Some, None, if◌then◌else◌}
+use Rattle.std.specs.List.{filter_map}
 use Rattle.std.specs.Option.{option_cmp}
 use Rattle.std.specs.Ordering.{is_eq}
 use Rattle.feature_expr.specs.Expressions.{and_of, or_of, not_of}
@@ -8,16 +8,13 @@ use Rattle.feature_expr.specs.Same.{same_expr}
 use Rattle.feature_expr.specs.declared.expr.Expr.{Expr, out-Expr}
 use Rattle.feature_expr.specs.declared.expr.Expr.TheOpen.{Expr-F}
 use Rattle.feature_expr.specs.declared.expr.Expr as e
-use Rattle.values.specs.declared.column_name.ColName.{ColName}
 use Rattle.values.specs.declared.value.Value.{Value}
-use Rattle.plain_relation.specs.Relations.{Column, columns_of, same_name}
+use Rattle.plain_relation.specs.Relations.{Column, columns_of}
 use Rattle.plain_relation.specs.Values.{value_cmp}
-use Rattle.relational_algebra.specs.Columns.{among, prefixed, same_column}
-use Rattle.relational_algebra.specs.Items.{given}
+use Rattle.relational_algebra.specs.Columns.{among, same_column}
 use Rattle.row_conditions.specs.Truths.{Slot, slots_of, truth_of}
 use Rattle.plan_exec.specs.Runs.{heading}
 use Rattle.vra_syntax.specs.declared.cond.Cond.{Cond}
-use Rattle.vra_syntax.specs.declared.items.Item.{Item}
 use Rattle.vtable.specs.Answers.{column_at}
 use Rattle.vtable.specs.declared.table.VColumn.{VColumn}
 use Rattle.vtable.specs.declared.table.VRow.{VRow}

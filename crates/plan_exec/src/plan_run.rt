@@ -1,5 +1,6 @@
 ghost use Rattle.std.specs.Prelude.{◌≡◌, ◌≤◌, IfOk, OnOk};
 ghost use Rattle.plan_exec.specs.Runs.{CanRun, IsMeaningOf, rows_of};
+ghost use Rattle.plan_exec.specs.Tables.{filtered_table};
 ghost use Rattle.plan_exec.specs.RunTables.{rewrapped_table, run_table, table_by, wrapped_table};
 
 use crate::alias::aliased;
@@ -67,6 +68,10 @@ fn run_plan<L: Ledger>(
                 return rebuilt(alloc, base, chain, steps);
             }
             Plan::Filter(source, cond) => {
+                if let Plan::Scan(number) = source.get() {
+                    let base = filtered_scan(alloc, cond, tables, *number)?;
+                    return rebuilt(alloc, base, chain, steps);
+                }
                 put_step(&mut chain, PlanStep::Filter(cond), source.get(), tables)?;
                 at = source.get();
             }
@@ -167,6 +172,25 @@ fn copied_table(alloc: Global, tables: &[TableRows], number: u32) -> Result<VTab
     while let Some((table, more)) = tables.split_first() {
         if table.table == number {
             return table.rows.copy(alloc);
+        }
+        tables = more;
+    }
+    Ok(VTable::empty(alloc))
+}
+
+/// The rows of the table with the number of which the condition is true. They alone are copied.
+fn filtered_scan(
+    alloc: Global,
+    cond: &Cond,
+    tables: &[TableRows],
+    number: u32,
+) -> Result<VTable, Memory>
+    ensures { IfOk result (λ it. it ≡ filtered_table cond.now (table_by (rows_of tables.now number))) }
+{
+    let mut tables = tables;
+    while let Some((table, more)) = tables.split_first() {
+        if table.table == number {
+            return filtered(alloc, cond, &table.rows);
         }
         tables = more;
     }

@@ -1,5 +1,5 @@
 -- What is promised of a condition's truth of a row, and of the pair of two rows.
-use Rattle.std.proofs.Common.{◌≡◌, ◌∙◌, ◌+◌, ◌≤◌, Bool, true, false, ◌||◌, List, [], ◌++◌, append-nil, refl, sym, ap, subst}
+use Rattle.std.proofs.Common.{◌≡◌, ◌∙◌, ◌+◌, ◌≤◌, Bool, true, false, ◌||◌, List, ◌++◌, refl, sym, ap, subst}
 use Rattle.feature_expr.specs.Expressions.{and_of, weight_of, mentions}
 use Rattle.feature_expr.specs.Satisfaction.{satisfies}
 use Rattle.feature_expr.specs.declared.expr.Expr.{Expr}

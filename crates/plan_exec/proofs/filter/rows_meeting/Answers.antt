@@ -1,4 +1,3 @@
-use Rattle.plan_exec.specs.Tables.{row_meeting}
 use Rattle.plan_exec.proofs.LoopLaws.{kept_more}
 use Rattle.plan_exec.proofs.filter.rows_meeting.Goals as goal
 

@@ -1,4 +1,3 @@
-use Rattle.std.proofs.Common.{◌≡◌}
 use Rattle.plan_exec.proofs.CodeLaws.{pair_made, pair_nowhere}
 use Rattle.plan_exec.proofs.join.put_pair.Goals as goal
 

@@ -1,4 +1,4 @@
-use Rattle.std.proofs.Common.{ap, sym, subst, ◌∙◌, ◌≤◌, rules, arith}
+use Rattle.std.proofs.Common.{ap, ◌∙◌}
 use Rattle.plan_exec.proofs.StepLaws.{join_around, join_smaller}
 use Rattle.plan_exec.specs.RunTables.{run_table}
 use Rattle.plan_exec.proofs.plan_run.+run_plan.Goals as goal

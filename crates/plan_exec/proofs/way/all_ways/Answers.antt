@@ -1,4 +1,4 @@
-use Rattle.std.proofs.Common.{◌++◌, ◌∷◌, [], ap, sym, ◌∙◌}
+use Rattle.std.proofs.Common.{ap, sym, ◌∙◌}
 use Rattle.plan_exec.proofs.WayLaws.{with_ways_push, ways_are}
 use Rattle.plan_exec.specs.Merges.{ways_of, with_ways}
 use Rattle.plan_exec.proofs.way.all_ways.Goals as goal
