@@ -1,0 +1,7 @@
+use Rattle.std.proofs.Common.{ap, ◌∙◌}
+use Rattle.plan_exec.proofs.RunLaws.{run_means}
+use Rattle.plan_exec.specs.RunTables.{run_table}
+use Rattle.plan_exec.proofs.plan_run.run.Goals as goal
+
+pub returns : goal.returns
+returns g c = run_means c.args.model.now c.args.rows.now.tables c.args.plan.now c.in_ok-table.table c.requires (c.in_ok-table.ensures ∙ ap (λ tables. run_table tables c.args.plan.now) c.as_slice.ensures)

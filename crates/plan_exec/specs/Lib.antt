@@ -1,0 +1,5 @@
+pub mod Merges
+pub mod RunTables
+pub mod Scanned
+pub mod Runs
+pub mod Tables

@@ -1,0 +1,91 @@
+ghost use Rattle.std.specs.Prelude.{◌≡◌, ◌++◌, map, IfOk, OnOk};
+ghost use Rattle.std.specs.Option.{option_to_list};
+ghost use Rattle.std.specs.List.{filter_map};
+ghost use Rattle.plan_exec.specs.Runs.{heading};
+ghost use Rattle.plan_exec.specs.Tables.{cell_under, laid_cells, row_laid, rows_laid};
+ghost use Rattle.row_conditions.specs.Truths.{slots_of};
+
+use crate::place::{is_false, is_same_column, put_under};
+use feature_expr::{Expr, and};
+use std::alloc::Global;
+use values::{List, Memory, TryCopy, Value};
+use vtable::{VColumn, VRow};
+
+/// Adds the rows in the order of other columns, where the condition holds.
+pub fn put_laid(
+    alloc: Global,
+    to: &[VColumn],
+    columns: &[VColumn],
+    cond: &Expr,
+    rows: &[VRow],
+    out: &mut Vec<VRow>,
+) -> Result<(), Memory>
+    ensures { OnOk result (out.new.items ≡ out.old.items ++ rows_laid to.now columns.now cond.now rows.now) }
+{
+    for row in rows {
+        put_row(alloc, to, columns, cond, row, out)?;
+    }
+    Ok(())
+}
+
+fn put_row(
+    alloc: Global,
+    to: &[VColumn],
+    columns: &[VColumn],
+    cond: &Expr,
+    row: &VRow,
+    out: &mut Vec<VRow>,
+) -> Result<(), Memory>
+    ensures { OnOk result (out.new.items ≡ out.old.items ++ option_to_list (row_laid to.now columns.now cond.now row.now)) }
+{
+    let here = row.cond.copy(alloc)?;
+    let cond = cond.copy(alloc)?;
+    let both = and(alloc, here, cond)?;
+    if is_false(&both) {
+        return Ok(());
+    }
+    let cells = laid_cells(alloc, to, columns, row.cells.as_slice())?;
+    put_under(cells, both, out)?;
+    Ok(())
+}
+
+/// The cells in the order of other columns, none where a column isn't among theirs.
+pub fn laid_cells(
+    alloc: Global,
+    to: &[VColumn],
+    columns: &[VColumn],
+    cells: &[Option<Value>],
+) -> Result<List<Option<Value>>, Memory>
+    ensures { IfOk result (λ it. it ≡ laid_cells to.now (slots_of columns.now cells.now)) }
+{
+    let mut out = Vec::with_capacity(alloc, to.len())?;
+    for column in to {
+        let cell = copied_cell(alloc, columns, cells, column)?;
+        out.push(cell)?;
+    }
+    Ok(List::from_vec(out))
+}
+
+/// A copy of the cell in the column of this name and kind.
+fn copied_cell(
+    alloc: Global,
+    columns: &[VColumn],
+    cells: &[Option<Value>],
+    key: &VColumn,
+) -> Result<Option<Value>, Memory>
+    ensures { IfOk result (λ it. it ≡ cell_under (slots_of columns.now cells.now) (heading key.now)) }
+{
+    let mut columns = columns;
+    let mut cells = cells;
+    while let Some((column, more)) = columns.split_first() {
+        let Some((cell, rest)) = cells.split_first() else {
+            return Ok(None);
+        };
+        if is_same_column(key, column) {
+            return cell.copy(alloc);
+        }
+        columns = more;
+        cells = rest;
+    }
+    Ok(None)
+}

@@ -1,0 +1,2 @@
+pub mod RowConditions
+pub mod Truths
