@@ -10,6 +10,10 @@ mod refused;
 
 pub use check::check_catalog;
 pub use laws::check_laws;
+pub use query_meaning::{
+    IllCase, IllTyped, Plan, TableColumns, TypeRefused, TypedColumn, plan_choose, plan_except,
+    plan_filter, plan_join, plan_keep, plan_rename, plan_union,
+};
 pub use query_names::{
     NamesRefused, QueryNames, TableNames, Typed, bind_plan, check_names, names_of, param_kinds,
     plan_of, plan_tables,
