@@ -1,10 +1,10 @@
 use crate::named::{listed, statement, table_names};
-use query_names::{bound_plan, names_of, param_kinds, plan_of, plan_tables};
+use query_names::{TableNames, bound_plan, names_of, param_kinds, plan_of, plan_tables};
 use std::alloc::Global;
 use std::process::Abort;
 use std::test::Fail;
 use values::Kind;
-use vra_syntax::Statement;
+use vra_syntax::{Query, Statement};
 use vschema::parse_catalog;
 
 /// How many links the chains have.
@@ -42,8 +42,19 @@ fn is_walked(rt: &impl Abort, alloc: Global, first: &str, link: &str) -> Result<
         .ok()
         .ok_or("kinds")?;
     assert!(rt; kinds.as_slice().iter().all(|kind| *kind == Kind::Int));
-    let plan = plan_of(alloc, &tables, query)?;
-    let scanned = plan_tables(alloc, tables.tables(), &plan)?;
+    is_planned(rt, alloc, &tables, query)
+}
+
+fn is_planned(
+    rt: &impl Abort,
+    alloc: Global,
+    tables: &TableNames<'_>,
+    query: &Query,
+) -> Result<(), Fail> {
+    let stored = tables.tables();
+    assert!(rt; stored.len() < 256);
+    let plan = plan_of(alloc, tables, query)?;
+    let scanned = plan_tables(alloc, stored, &plan)?;
     assert_eq!(rt; scanned.len(), 1);
     let _bound = bound_plan(alloc, &plan, &[])?;
     Ok(())
