@@ -1,6 +1,6 @@
 -- A plan is as sound with values in the places of its parameters as without, and the plan of a bound query is the bound
 -- plan of the query.
-use Rattle.std.proofs.Common.{◌≡◌, ℕ, List, Option, Some, None, sym, ◌∙◌, ap}
+use Rattle.std.proofs.Common.{◌≡◌, ℕ, List, Option, Some, None, refl, sym, ◌∙◌, ap}
 use Rattle.feature_expr.specs.declared.expr.Expr.{Expr}
 use Rattle.values.specs.declared.value.Value.{Value}
 use Rattle.vra_syntax.specs.Binding.{bound_cond, bound_query, bound_query_step}
@@ -58,35 +58,40 @@ module _ (R : Type 0) (f : Plan-F R → R) where
   unfolding roll-Plan Carrier.roll
   at_nothing = fold-roll-Plan R f Plan-F.Nothing
 
-module _ (c : List ℕ) (sources : ℕ → Source) (values : List Value) where
-  abbrev φ : Plan-F TypedPart → TypedPart
-  φ = plan_type_step c sources
+-- a layer that makes of a condition with values for its parameters what it makes of the condition
+pub record Ignores (R : Type 0) (values : List Value) (φ : Plan-F R → R) : Type 0 where
+  pub filter : (x : R) (cond : Cond) → φ (Plan-F.Filter x (bound_cond values cond)) ≡ φ (Plan-F.Filter x cond)
+  pub join : (a b : R) (cond : Cond) → φ (Plan-F.Join a b (bound_cond values cond)) ≡ φ (Plan-F.Join a b cond)
 
-  abbrev part : Plan → TypedPart
-  part p = fold-Plan TypedPart φ p
+module _ (R : Type 0) (values : List Value) (φ : Plan-F R → R) (ignores : Ignores R values φ) where
+  abbrev part : Plan → R
+  part p = fold-Plan R φ p
 
   abbrev P : Plan → Type 0
   P p = part (bound_plan values p) ≡ part p
 
-  rolled : (x : Plan-F Plan) → part (bound_plan_step values (map-Plan Plan Plan (bound_plan values) x)) ≡ φ (map-Plan Plan TypedPart part x) → P (roll-Plan x)
-  rolled x f = ap part (fold-roll-Plan Plan (bound_plan_step values) x) ∙ f ∙ sym (fold-roll-Plan TypedPart φ x)
+  rolled : (x : Plan-F Plan) → part (bound_plan_step values (map-Plan Plan Plan (bound_plan values) x)) ≡ φ (map-Plan Plan R part x) → P (roll-Plan x)
+  rolled x f = ap part (fold-roll-Plan Plan (bound_plan_step values) x) ∙ f ∙ sym (fold-roll-Plan R φ x)
 
   layer : (y : Plan-F ((p : Plan) × P p)) → P (roll-Plan (map-Plan ((p : Plan) × P p) Plan (λ e. e.0) y))
-  layer (Plan-F.Scan table) = rolled (Plan-F.Scan table) (at_scan TypedPart φ table)
-  layer (Plan-F.Filter s cond) = rolled (Plan-F.Filter s.0 cond) (at_filter TypedPart φ (bound_plan values s.0) (bound_cond values cond) ∙ ap (λ (p : TypedPart). φ (Plan-F.Filter p cond)) s.1)
-  layer (Plan-F.Keep s items) = rolled (Plan-F.Keep s.0 items) (at_keep TypedPart φ (bound_plan values s.0) items ∙ ap (λ (p : TypedPart). φ (Plan-F.Keep p items)) s.1)
-  layer (Plan-F.Join l r cond) = rolled (Plan-F.Join l.0 r.0 cond) (at_join TypedPart φ (bound_plan values l.0) (bound_plan values r.0) (bound_cond values cond) ∙ ap (λ (p : TypedPart). φ (Plan-F.Join p (part (bound_plan values r.0)) cond)) l.1 ∙ ap (λ (p : TypedPart). φ (Plan-F.Join (part l.0) p cond)) r.1)
-  layer (Plan-F.Union l r) = rolled (Plan-F.Union l.0 r.0) (at_union TypedPart φ (bound_plan values l.0) (bound_plan values r.0) ∙ ap (λ (p : TypedPart). φ (Plan-F.Union p (part (bound_plan values r.0)))) l.1 ∙ ap (λ (p : TypedPart). φ (Plan-F.Union (part l.0) p)) r.1)
-  layer (Plan-F.Except l r) = rolled (Plan-F.Except l.0 r.0) (at_except TypedPart φ (bound_plan values l.0) (bound_plan values r.0) ∙ ap (λ (p : TypedPart). φ (Plan-F.Except p (part (bound_plan values r.0)))) l.1 ∙ ap (λ (p : TypedPart). φ (Plan-F.Except (part l.0) p)) r.1)
-  layer (Plan-F.Rename s name) = rolled (Plan-F.Rename s.0 name) (at_rename TypedPart φ (bound_plan values s.0) name ∙ ap (λ (p : TypedPart). φ (Plan-F.Rename p name)) s.1)
-  layer (Plan-F.Choose expr l r) = rolled (Plan-F.Choose expr l.0 r.0) (at_choose TypedPart φ expr (bound_plan values l.0) (bound_plan values r.0) ∙ ap (λ (p : TypedPart). φ (Plan-F.Choose expr p (part (bound_plan values r.0)))) l.1 ∙ ap (λ (p : TypedPart). φ (Plan-F.Choose expr (part l.0) p)) r.1)
-  layer Plan-F.Nothing = rolled Plan-F.Nothing (at_nothing TypedPart φ)
+  layer (Plan-F.Scan table) = rolled (Plan-F.Scan table) (at_scan R φ table)
+  layer (Plan-F.Filter s cond) = rolled (Plan-F.Filter s.0 cond) (at_filter R φ (bound_plan values s.0) (bound_cond values cond) ∙ ignores.filter (part (bound_plan values s.0)) cond ∙ ap (λ (p : R). φ (Plan-F.Filter p cond)) s.1)
+  layer (Plan-F.Keep s items) = rolled (Plan-F.Keep s.0 items) (at_keep R φ (bound_plan values s.0) items ∙ ap (λ (p : R). φ (Plan-F.Keep p items)) s.1)
+  layer (Plan-F.Join l r cond) = rolled (Plan-F.Join l.0 r.0 cond) (at_join R φ (bound_plan values l.0) (bound_plan values r.0) (bound_cond values cond) ∙ ignores.join (part (bound_plan values l.0)) (part (bound_plan values r.0)) cond ∙ ap (λ (p : R). φ (Plan-F.Join p (part (bound_plan values r.0)) cond)) l.1 ∙ ap (λ (p : R). φ (Plan-F.Join (part l.0) p cond)) r.1)
+  layer (Plan-F.Union l r) = rolled (Plan-F.Union l.0 r.0) (at_union R φ (bound_plan values l.0) (bound_plan values r.0) ∙ ap (λ (p : R). φ (Plan-F.Union p (part (bound_plan values r.0)))) l.1 ∙ ap (λ (p : R). φ (Plan-F.Union (part l.0) p)) r.1)
+  layer (Plan-F.Except l r) = rolled (Plan-F.Except l.0 r.0) (at_except R φ (bound_plan values l.0) (bound_plan values r.0) ∙ ap (λ (p : R). φ (Plan-F.Except p (part (bound_plan values r.0)))) l.1 ∙ ap (λ (p : R). φ (Plan-F.Except (part l.0) p)) r.1)
+  layer (Plan-F.Rename s name) = rolled (Plan-F.Rename s.0 name) (at_rename R φ (bound_plan values s.0) name ∙ ap (λ (p : R). φ (Plan-F.Rename p name)) s.1)
+  layer (Plan-F.Choose expr l r) = rolled (Plan-F.Choose expr l.0 r.0) (at_choose R φ expr (bound_plan values l.0) (bound_plan values r.0) ∙ ap (λ (p : R). φ (Plan-F.Choose expr p (part (bound_plan values r.0)))) l.1 ∙ ap (λ (p : R). φ (Plan-F.Choose expr (part l.0) p)) r.1)
+  layer Plan-F.Nothing = rolled Plan-F.Nothing (at_nothing R φ)
 
-  same_part : (p : Plan) → P p
-  same_part = ind-Plan P (λ x y is. subst (λ z. P (roll-Plan z)) is (layer y))
+  pub same_fold : (p : Plan) → fold-Plan R φ (bound_plan values p) ≡ fold-Plan R φ p
+  same_fold = ind-Plan P (λ x y is. subst (λ z. P (roll-Plan z)) is (layer y))
 
 pub bound_sound : (model : Expr) (sources : ℕ → Source) (values : List Value) (p : Plan) → IsSound model sources p → IsSound model sources (bound_plan values p)
-bound_sound model sources values p sound = record { typed = λ c admitted. ap (λ (part : TypedPart). cases_of part.type) (same_part c sources values p) ∙ sound.typed c admitted }
+bound_sound model sources values p sound = record { typed = λ c admitted. ap (λ (part : TypedPart). cases_of part.type) (same_part c p) ∙ sound.typed c admitted }
+  where
+    same_part : (c : List ℕ) (p : Plan) → fold-Plan TypedPart (plan_type_step c sources) (bound_plan values p) ≡ fold-Plan TypedPart (plan_type_step c sources) p
+    same_part c = same_fold TypedPart values (plan_type_step c sources) (record { filter = λ x cond. refl; join = λ a b cond. refl })
 
 module _ (tables : List Table) (values : List Value) where
   abbrev Q : Query → Type 0

@@ -23,7 +23,7 @@ use Rattle.query_meaning.specs.declared.plan.Plan.TheFolds.{fold-roll-Plan}
 use Rattle.query_meaning.specs.declared.plan.Plan.TheOpen.{Plan-F}
 use denote.Hole.Carrier
 
-no_more : (xs ys : List Case) → xs ++ ys ≡ [] → (xs ≡ []) × (ys ≡ [])
+pub no_more : (xs ys : List Case) → xs ++ ys ≡ [] → (xs ≡ []) × (ys ≡ [])
 no_more [] ys e = (refl, e)
 no_more (x ∷ xs) ys e = absurd (cc e)
 

@@ -10,4 +10,5 @@ pub mod Plans
 pub mod PossibleColumns
 pub mod Sources
 pub mod Typing
+pub mod WorkedRows
 pub mod WriteTyping

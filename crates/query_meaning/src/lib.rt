@@ -10,7 +10,7 @@ mod plan_copy;
 mod typed;
 
 pub use ill::{IllCase, IllTyped, TypeRefused};
-pub use laws::query_laws;
+pub use laws::{bound_laws, column_laws, query_laws, worked_rows};
 pub use plan::{
     Plan, plan_choose, plan_except, plan_filter, plan_join, plan_keep, plan_rename, plan_union,
 };

@@ -1,0 +1,5 @@
+mod CallLaws
+mod Connectives
+mod KeyLaws
+mod ListLaws
+mod SettleLaws
