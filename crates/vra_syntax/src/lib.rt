@@ -17,6 +17,7 @@ mod statement;
 mod write;
 
 pub use bind::bind_params;
+pub use bind_cond::bound_cond;
 pub use cond::{Cond, Op, Operand, cond_and, cond_choice, cond_not, cond_or};
 pub use count::param_count;
 pub use items::{Item, Items};

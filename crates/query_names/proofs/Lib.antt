@@ -1,0 +1,10 @@
+mod CaseLaws
+mod ColumnLaws
+mod ItemLaws
+mod NameStepLaws
+mod NumberLaws
+mod OnceLaws
+mod OperandLaws
+mod PartLaws
+mod StepLaws
+mod WaitingLaws
