@@ -1,0 +1,3 @@
+mod BuildLaws
+mod Connectives
+mod FaultLaws

@@ -1,0 +1,12 @@
+//! The typing of queries, exact in every variant.
+//!
+//! The path of a type's file is part of this crate's interface: a specification above names it.
+#![tactic(auto)]
+
+mod absent;
+mod fault;
+mod kinds;
+mod refused;
+mod twice;
+
+pub use refused::CaseRefused;
