@@ -1,3 +1,6 @@
 mod BuildLaws
 mod Connectives
 mod FaultLaws
+mod KindLaws
+mod WaitingLaws
+mod WhereLaws

@@ -80,8 +80,14 @@ fn kind_at(kinds: &[Kind], number: u16) -> Option<Kind>
     }
 }
 
-/// Holds where a kind of the left side isn't one of the right side.
-pub fn differ(alloc: Global, left: &[KindWhere], right: &[KindWhere]) -> Result<Expr, Memory>
+/// Holds where both sides have a kind, and not the same one.
+pub fn differ(alloc: Global, left: Vec<KindWhere>, right: Vec<KindWhere>) -> Result<Expr, Memory>
+    ensures { IfOk result (λ it. it ≡ differ_from right.items e.False left.items) }
+{
+    differ_of(alloc, left.as_slice(), right.as_slice())
+}
+
+fn differ_of(alloc: Global, left: &[KindWhere], right: &[KindWhere]) -> Result<Expr, Memory>
     ensures { IfOk result (λ it. it ≡ differ_from right.now e.False left.now) }
 {
     let mut whole = Expr::False;

@@ -4,6 +4,8 @@
 #![tactic(auto)]
 
 mod absent;
+mod ask_where;
+mod cond_cases;
 mod fault;
 mod kinds;
 mod refused;
