@@ -82,3 +82,6 @@ or_holds c l r = or_left_holds c l r (out-Expr l) refl
 -- copies hold where what was copied does
 pub and_copied : (c : List ℕ) (one other one' other' both : Expr) → one' ≡ one → other' ≡ other → satisfies c both ≡ (satisfies c one' && satisfies c other') → satisfies c both ≡ (satisfies c one && satisfies c other)
 and_copied c one other one' other' both same same' is = is ∙ ap (λ (x : Expr). satisfies c x && satisfies c other') same ∙ ap (λ (x : Expr). satisfies c one && satisfies c x) same'
+
+pub both_say : (a b w x y : Bool) → a ≡ x → b ≡ y → w ≡ (a && b) → w ≡ (x && y)
+both_say a b w x y one other is = is ∙ ap (λ v. v && b) one ∙ ap (λ v. x && v) other

@@ -1,6 +1,10 @@
 mod BuildLaws
 mod Connectives
 mod FaultLaws
+mod FormLaws
 mod KindLaws
+mod LeafLaws
+mod SideLaws
+mod StepLaws
 mod WaitingLaws
 mod WhereLaws

@@ -1,3 +1,7 @@
 pub mod Faults
+pub mod Forms
 pub mod Kinds
+pub mod Leaves
+pub mod Parts
+pub mod Steps
 pub mod Waiting

@@ -7,8 +7,13 @@ mod absent;
 mod ask_where;
 mod cond_cases;
 mod fault;
+mod form;
 mod kinds;
+mod leaf;
 mod refused;
+mod select;
+mod table;
 mod twice;
+mod two_forms;
 
 pub use refused::CaseRefused;
