@@ -7,4 +7,5 @@ mod LeafLaws
 mod SideLaws
 mod StepLaws
 mod WaitingLaws
+mod WalkLaws
 mod WhereLaws

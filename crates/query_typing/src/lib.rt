@@ -15,5 +15,7 @@ mod select;
 mod table;
 mod twice;
 mod two_forms;
+mod walk;
 
 pub use refused::CaseRefused;
+pub use walk::type_part;
