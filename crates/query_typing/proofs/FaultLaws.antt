@@ -66,8 +66,8 @@ one_of_right (x ∷ left) right one is = inr (one_of_right left right one is)
 pub asked_so_far : (model reach : Expr) (faults : List Fault) (fault : Fault) (i : ℕ) → i < length faults → fault ≡ get_or faults i fault → NoCase model reach (λ c. faults_at c (take i faults)) → NoCase model reach (λ c. fault_at c fault) → NoCase model reach (λ c. faults_at c (take (i + 1) faults))
 asked_so_far model reach faults fault i below is before now = record {
   none = λ c admitted reached.
-    ap (faults_at c) (take_more faults i fault below is) ∙ flat_map-append (fault_at c) (take i faults) (fault ∷ [])
-    ∙ ap (λ xs. xs ++ faults_at c (fault ∷ [])) (before.none c admitted reached) ∙ append-nil (fault_at c fault) ∙ now.none c admitted reached;
+      ap (faults_at c) (take_more faults i fault below is) ∙ flat_map-append (fault_at c) (take i faults) (fault ∷ [])
+      ∙ ap (λ xs. xs ++ faults_at c (fault ∷ [])) (before.none c admitted reached) ∙ append-nil (fault_at c fault) ∙ now.none c admitted reached;
 }
 
 pub asked_refused : (model before reach : Expr) (faults : List Fault) (fault : Fault) (i : ℕ) (why : CaseRefused) → before ≡ model → i < length faults → fault ≡ get_or faults i fault → RefusesCase before reach (λ c. fault_at c fault) why → RefusesCase model reach (λ c. faults_at c faults) why
@@ -78,6 +78,6 @@ asked_refused model before reach faults fault i (refused.Ill it) same below is s
   admitted = subst (λ m. IsAdmitted m shows.config) same shows.admitted;
   reached = shows.reached;
   shown = subst (λ xs. IsOneOf xs (case_of it)) (sym (ap (faults_at shows.config) (whole_is faults i fault below is) ∙ flat_map-append (fault_at shows.config) (take i faults) (fault ∷ drop (suc i) faults)))
-    (one_of_right (faults_at shows.config (take i faults)) (faults_at shows.config (fault ∷ drop (suc i) faults)) (case_of it)
+      (one_of_right (faults_at shows.config (take i faults)) (faults_at shows.config (fault ∷ drop (suc i) faults)) (case_of it)
       (one_of_left (fault_at shows.config fault) (faults_at shows.config (drop (suc i) faults)) (case_of it) shows.shown));
 }

@@ -81,9 +81,9 @@ under_path false d b one is = ap (λ x. if x then one ∷ [] else []) is
 pub differ_added : (c : List ℕ) (kinds : List Kind) (ks : List TypedColumn) (left right : Operand) (path path' other cond : Expr) (lk rk : List KindWhere) (name : ColName) (old new : List Case) → lk ≡ operand_kinds_where kinds ks left → rk ≡ operand_kinds_where kinds ks right → other ≡ differ_from rk e.False lk → path' ≡ path → satisfies c cond ≡ (satisfies c path' && satisfies c other) → name ≡ operand_name left → new ≡ old ++ (if satisfies c cond then case ill.KindsDiffer name ∷ [] else []) → new ≡ old ++ (if satisfies c path then (if kinds_differ (operand_kinds kinds (columns_at c ks) left) (operand_kinds kinds (columns_at c ks) right) then case ill.KindsDiffer (operand_name left) ∷ [] else []) else [])
 differ_added c kinds ks left right path path' other cond lk rk name old new lk_is rk_is other_is same is name_is added =
     let differs : satisfies c other ≡ kinds_differ (operand_kinds kinds (columns_at c ks) left) (operand_kinds kinds (columns_at c ks) right) =
-          ap (satisfies c) other_is ∙ differ_holds c rk e.False lk ∙ ap (λ b. b || kinds_differ (kinds_there c lk) (kinds_there c rk)) (holds_False c)
-          ∙ ap (λ xs. kinds_differ (kinds_there c xs) (kinds_there c rk)) lk_is ∙ ap (λ xs. kinds_differ (kinds_there c (operand_kinds_where kinds ks left)) (kinds_there c xs)) rk_is
-          ∙ ap (λ xs. kinds_differ xs (kinds_there c (operand_kinds_where kinds ks right))) (operand_kinds_there c kinds ks left)
-          ∙ ap (kinds_differ (operand_kinds kinds (columns_at c ks) left)) (operand_kinds_there c kinds ks right) in
+    ap (satisfies c) other_is ∙ differ_holds c rk e.False lk ∙ ap (λ b. b || kinds_differ (kinds_there c lk) (kinds_there c rk)) (holds_False c)
+    ∙ ap (λ xs. kinds_differ (kinds_there c xs) (kinds_there c rk)) lk_is ∙ ap (λ xs. kinds_differ (kinds_there c (operand_kinds_where kinds ks left)) (kinds_there c xs)) rk_is
+    ∙ ap (λ xs. kinds_differ xs (kinds_there c (operand_kinds_where kinds ks right))) (operand_kinds_there c kinds ks left)
+    ∙ ap (kinds_differ (operand_kinds kinds (columns_at c ks) left)) (operand_kinds_there c kinds ks right) in
     added ∙ ap (λ n. old ++ (if satisfies c cond then case ill.KindsDiffer n ∷ [] else [])) name_is
     ∙ ap (λ (xs : List Case). old ++ xs) (under_path (satisfies c path) (kinds_differ (operand_kinds kinds (columns_at c ks) left) (operand_kinds kinds (columns_at c ks) right)) (satisfies c cond) (case ill.KindsDiffer (operand_name left)) (is ∙ ap (λ (x : Expr). satisfies c x && satisfies c other) same ∙ ap (λ b. satisfies c path && b) differs))

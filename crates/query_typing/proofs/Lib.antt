@@ -1,3 +1,4 @@
+mod AnswerLaws
 mod BuildLaws
 mod Connectives
 mod FaultLaws

@@ -80,9 +80,9 @@ module _ (model : Expr) (kinds : List Kind) (tables : List Table) where
     both_is v made = record {
       possible = λ c. ap (λ (t : TypedPart). t.possible) (two_part c kinds tables f l r) ∙ two_possible c kinds f (part l c) (plain_part left c) (part r c) (plain_part right c) (l_is.possible c) (r_is.possible c) ∙ made.possible c;
       type = λ c admitted reached. ap (λ (t : TypedPart). t.type) (two_part c kinds tables f l r)
-        ∙ ap (λ (t : TypedPart). (two_typed c kinds f t (part r c)).type) (same_part (part l c) (plain_part left c) (l_is.possible c) (l_is.type c admitted reached))
-        ∙ ap (λ (t : TypedPart). (two_typed c kinds f (plain_part left c) t).type) (same_part (part r c) (plain_part right c) (r_is.possible c) (r_is.type c admitted reached))
-        ∙ made.type c admitted reached;
+          ∙ ap (λ (t : TypedPart). (two_typed c kinds f t (part r c)).type) (same_part (part l c) (plain_part left c) (l_is.possible c) (l_is.type c admitted reached))
+          ∙ ap (λ (t : TypedPart). (two_typed c kinds f (plain_part left c) t).type) (same_part (part r c) (plain_part right c) (r_is.possible c) (r_is.type c admitted reached))
+          ∙ made.type c admitted reached;
     }
 
     both_fails : (why : CaseRefused) → PartFails model reach (λ c. two_typed c kinds f (plain_part left c) (plain_part right c)) why → PartFails model reach (part (two_wrapped f l r)) why
@@ -93,8 +93,8 @@ module _ (model : Expr) (kinds : List Kind) (tables : List Table) where
       admitted = shows.admitted;
       reached = shows.reached;
       shown = subst (λ (t : TypedPart). IsOneOf (cases_of t.type) (case_of it)) (sym (two_part c kinds tables f l r
-        ∙ ap (λ (t : TypedPart). two_typed c kinds f t (part r c)) (same_part (part l c) (plain_part left c) (l_is.possible c) (l_is.type c shows.admitted shows.reached))
-        ∙ ap (λ (t : TypedPart). two_typed c kinds f (plain_part left c) t) (same_part (part r c) (plain_part right c) (r_is.possible c) (r_is.type c shows.admitted shows.reached)))) shows.shown;
+          ∙ ap (λ (t : TypedPart). two_typed c kinds f t (part r c)) (same_part (part l c) (plain_part left c) (l_is.possible c) (l_is.type c shows.admitted shows.reached))
+          ∙ ap (λ (t : TypedPart). two_typed c kinds f (plain_part left c) t) (same_part (part r c) (plain_part right c) (r_is.possible c) (r_is.type c shows.admitted shows.reached)))) shows.shown;
     }
 
   -- a choice, whose sides are reached where it takes them
@@ -108,11 +108,11 @@ module _ (model : Expr) (kinds : List Kind) (tables : List Table) where
     choice_is v heads there = record {
       possible = λ c. ap (λ (t : TypedPart). t.possible) (two_part c kinds tables (two.Choice expr) l r) ∙ order_is c ∙ sym heads;
       type = λ c admitted reached. ap (λ (t : TypedPart). t.type) (two_part c kinds tables (two.Choice expr) l r)
-        ∙ ap (λ k. chosen_type k (if satisfies c expr.now then (part l c).type else (part r c).type)) (order_is c)
-        ∙ chosen_by (satisfies c expr.now) (merged (headings left) (headings right)) (part l c).type (part r c).type (columns_at c left) (columns_at c right)
+          ∙ ap (λ k. chosen_type k (if satisfies c expr.now then (part l c).type else (part r c).type)) (order_is c)
+          ∙ chosen_by (satisfies c expr.now) (merged (headings left) (headings right)) (part l c).type (part r c).type (columns_at c left) (columns_at c right)
           (λ taken. l_is.type c admitted (lr_is c ∙ both (satisfies c reach) (satisfies c expr.now) reached taken))
           (λ other. r_is.type c admitted (rr_is c ∙ both (satisfies c reach) (not (satisfies c expr.now)) reached (ap not other)))
-        ∙ ap Columns (sym (there c));
+          ∙ ap Columns (sym (there c));
     }
       where
         order_is : (c : List ℕ) → merged (part l c).possible (part r c).possible ≡ merged (headings left) (headings right)

@@ -1,3 +1,4 @@
+pub mod Answer
 pub mod Faults
 pub mod Forms
 pub mod Kinds

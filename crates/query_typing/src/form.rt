@@ -51,11 +51,7 @@ pub struct Apart<'a> {
     pub reach: Expr,
 }
 
-pub fn taken_apart<'a>(
-    alloc: Global,
-    query: &'a Query,
-    reach: Expr,
-) -> Result<Apart<'a>, Memory>
+pub fn taken_apart<'a>(alloc: Global, query: &'a Query, reach: Expr) -> Result<Apart<'a>, Memory>
     ensures whole { IfOk result (λ it. rewrapped it.steps.items (leaf_query (option_copied it.leaf)) ≡ query.now) }
     ensures reached { IfOk result (λ it. AreReached (λ c. satisfies c reach) it.steps.items (λ c. satisfies c it.reach)) }
 {

@@ -4,7 +4,9 @@
 #![tactic(auto)]
 
 mod absent;
+mod answer;
 mod ask_where;
+mod check;
 mod cond_cases;
 mod fault;
 mod form;
@@ -17,5 +19,6 @@ mod twice;
 mod two_forms;
 mod walk;
 
+pub use check::query_columns;
 pub use refused::CaseRefused;
 pub use walk::type_part;

@@ -24,7 +24,7 @@ pub returns-in_err-columns-in-One-clause-err : goal.returns-in_err-columns-in-On
 returns-in_err-columns-in-One-clause-err t c =
     let p = err_from_is_err_and c.from_residual-in_err-columns-in-One.result c.from_residual-in_err-columns-in-One.ensures.1 in
     rw (p.1, p.2) (one_refused c.args.questions.now c.args.kinds.now c.args.tables.now.tables.now c.args.reach c.args.query.now c.pop.new.self.items c.loop-step.steps.items c.in-Some.step c.loop-step.columns c.in-Some.ensures.items c.loop-step.invariant.stands c.in-One.form c.in_err-columns-in-One.field-0.0 c.in-One.is
-      (subst (λ (m : Expr). PartFails m c.in-Some.step.reach (λ d. one_typed d c.args.kinds.now c.in-One.form (plain_part c.loop-step.columns d)) c.in_err-columns-in-One.field-0.0) c.loop-step.invariant.same c.in_err-columns-in-One.ensures.err))
+    (subst (λ (m : Expr). PartFails m c.in-Some.step.reach (λ d. one_typed d c.args.kinds.now c.in-One.form (plain_part c.loop-step.columns d)) c.in_err-columns-in-One.field-0.0) c.loop-step.invariant.same c.in_err-columns-in-One.ensures.err))
 
 pub type_part-requires : goal.type_part-requires
 type_part-requires t c =
@@ -36,33 +36,33 @@ pub returns-in_err-right-in-Two-clause-err : goal.returns-in_err-right-in-Two-cl
 returns-in_err-right-in-Two-clause-err t c =
     let p = err_from_is_err_and c.from_residual-in_err-right-in-Two.result c.from_residual-in_err-right-in-Two.ensures.1 in
     rw (p.1, p.2) (right_refused c.args.questions.now c.args.kinds.now c.args.tables.now.tables.now c.args.reach c.args.query.now c.pop.new.self.items c.loop-step.steps.items c.in-Some.step c.loop-step.columns c.in-Some.ensures.items c.loop-step.invariant.stands c.in-Two.form c.in-Two.right c.in_ok-inside-in-Two.inside c.in-Two.is c.in_ok-inside-in-Two.ensures c.in_err-right-in-Two.field-0.0
-      (subst (λ (m : Expr). PartFails m c.in_ok-inside-in-Two.inside (λ d. typed_part d c.args.kinds.now c.args.tables.now.tables.now c.in-Two.right.now) c.in_err-right-in-Two.field-0.0) c.loop-step.invariant.same c.in_err-right-in-Two.ensures.err))
+    (subst (λ (m : Expr). PartFails m c.in_ok-inside-in-Two.inside (λ d. typed_part d c.args.kinds.now c.args.tables.now.tables.now c.in-Two.right.now) c.in_err-right-in-Two.field-0.0) c.loop-step.invariant.same c.in_err-right-in-Two.ensures.err))
 
 pub returns-in_err-columns-in-Two-clause-err : goal.returns-in_err-columns-in-Two-clause-err
 returns-in_err-columns-in-Two-clause-err t c =
     let p = err_from_is_err_and c.from_residual-in_err-columns-in-Two.result c.from_residual-in_err-columns-in-Two.ensures.1 in
     rw (p.1, p.2) (two_refused c.args.questions.now c.args.kinds.now c.args.tables.now.tables.now c.args.reach c.args.query.now c.pop.new.self.items c.loop-step.steps.items c.in-Some.step c.loop-step.columns c.in-Some.ensures.items c.loop-step.invariant.stands c.in-Two.form c.in-Two.right c.in_ok-inside-in-Two.inside c.in-Two.is c.in_ok-inside-in-Two.ensures c.in_ok-right-in-Two.right c.in_err-columns-in-Two.field-0.0
-      (subst (λ (m : Expr). PartIs m c.in_ok-inside-in-Two.inside (λ d. typed_part d c.args.kinds.now c.args.tables.now.tables.now c.in-Two.right.now) c.in_ok-right-in-Two.right) c.loop-step.invariant.same c.in_ok-right-in-Two.ensures.ok)
-      (subst (λ (m : Expr). TwoFails m c.in-Some.step.reach c.args.kinds.now c.in-Two.form c.loop-step.columns c.in_ok-right-in-Two.right c.in_err-columns-in-Two.field-0.0) (c.in_ok-right-in-Two.ensures.same ∙ c.loop-step.invariant.same) c.in_err-columns-in-Two.ensures.err))
+    (subst (λ (m : Expr). PartIs m c.in_ok-inside-in-Two.inside (λ d. typed_part d c.args.kinds.now c.args.tables.now.tables.now c.in-Two.right.now) c.in_ok-right-in-Two.right) c.loop-step.invariant.same c.in_ok-right-in-Two.ensures.ok)
+    (subst (λ (m : Expr). TwoFails m c.in-Some.step.reach c.args.kinds.now c.in-Two.form c.loop-step.columns c.in_ok-right-in-Two.right c.in_err-columns-in-Two.field-0.0) (c.in_ok-right-in-Two.ensures.same ∙ c.loop-step.invariant.same) c.in_err-columns-in-Two.ensures.err))
 
 pub loop-step-preserved : goal.loop-step-preserved
 loop-step-preserved t c =
     elim c.match-step.branch [
       | in-One+in_ok-columns-in-One w ↦ record {
-          same = w.questions-is ∙ w.in_ok-columns-in-One.ensures.same ∙ c.loop-step.invariant.same;
-          stands = subst (Standing c.args.questions.now c.args.kinds.now c.args.tables.now.tables.now c.args.reach c.args.query.now c.pop.new.self.items) (sym w.columns-is)
+        same = w.questions-is ∙ w.in_ok-columns-in-One.ensures.same ∙ c.loop-step.invariant.same;
+        stands = subst (Standing c.args.questions.now c.args.kinds.now c.args.tables.now.tables.now c.args.reach c.args.query.now c.pop.new.self.items) (sym w.columns-is)
             (one_stands c.args.questions.now c.args.kinds.now c.args.tables.now.tables.now c.args.reach c.args.query.now c.pop.new.self.items c.loop-step.steps.items c.in-Some.step c.loop-step.columns c.in-Some.ensures.items c.loop-step.invariant.stands w.in-One.form w.in_ok-columns-in-One.columns w.in-One.is
-              (subst (λ (m : Expr). PartIs m c.in-Some.step.reach (λ d. one_typed d c.args.kinds.now w.in-One.form (plain_part c.loop-step.columns d)) w.in_ok-columns-in-One.columns) c.loop-step.invariant.same w.in_ok-columns-in-One.ensures.ok));
-          below = (goes_below c.pop.new.self.items c.loop-step.steps.items c.in-Some.step (size-Query c.args.query.now) c.in-Some.ensures.items c.loop-step.invariant.below).0;
-        }
+            (subst (λ (m : Expr). PartIs m c.in-Some.step.reach (λ d. one_typed d c.args.kinds.now w.in-One.form (plain_part c.loop-step.columns d)) w.in_ok-columns-in-One.columns) c.loop-step.invariant.same w.in_ok-columns-in-One.ensures.ok));
+        below = (goes_below c.pop.new.self.items c.loop-step.steps.items c.in-Some.step (size-Query c.args.query.now) c.in-Some.ensures.items c.loop-step.invariant.below).0;
+      }
       | in-Two+in_ok-inside-in-Two+in_ok-right-in-Two+in_ok-columns-in-Two w ↦ record {
-          same = w.questions-is ∙ w.in_ok-columns-in-Two.ensures.same ∙ w.in_ok-right-in-Two.ensures.same ∙ c.loop-step.invariant.same;
-          stands = subst (Standing c.args.questions.now c.args.kinds.now c.args.tables.now.tables.now c.args.reach c.args.query.now c.pop.new.self.items) (sym w.columns-is)
+        same = w.questions-is ∙ w.in_ok-columns-in-Two.ensures.same ∙ w.in_ok-right-in-Two.ensures.same ∙ c.loop-step.invariant.same;
+        stands = subst (Standing c.args.questions.now c.args.kinds.now c.args.tables.now.tables.now c.args.reach c.args.query.now c.pop.new.self.items) (sym w.columns-is)
             (two_stands c.args.questions.now c.args.kinds.now c.args.tables.now.tables.now c.args.reach c.args.query.now c.pop.new.self.items c.loop-step.steps.items c.in-Some.step c.loop-step.columns c.in-Some.ensures.items c.loop-step.invariant.stands w.in-Two.form w.in-Two.right w.in_ok-inside-in-Two.inside w.in-Two.is w.in_ok-inside-in-Two.ensures w.in_ok-right-in-Two.right w.in_ok-columns-in-Two.columns
-              (subst (λ (m : Expr). PartIs m w.in_ok-inside-in-Two.inside (λ d. typed_part d c.args.kinds.now c.args.tables.now.tables.now w.in-Two.right.now) w.in_ok-right-in-Two.right) c.loop-step.invariant.same w.in_ok-right-in-Two.ensures.ok)
-              (subst (λ (m : Expr). TwoIs m c.in-Some.step.reach c.args.kinds.now w.in-Two.form c.loop-step.columns w.in_ok-right-in-Two.right w.in_ok-columns-in-Two.columns) (w.in_ok-right-in-Two.ensures.same ∙ c.loop-step.invariant.same) w.in_ok-columns-in-Two.ensures.ok));
-          below = (goes_below c.pop.new.self.items c.loop-step.steps.items c.in-Some.step (size-Query c.args.query.now) c.in-Some.ensures.items c.loop-step.invariant.below).0;
-        }
+            (subst (λ (m : Expr). PartIs m w.in_ok-inside-in-Two.inside (λ d. typed_part d c.args.kinds.now c.args.tables.now.tables.now w.in-Two.right.now) w.in_ok-right-in-Two.right) c.loop-step.invariant.same w.in_ok-right-in-Two.ensures.ok)
+            (subst (λ (m : Expr). TwoIs m c.in-Some.step.reach c.args.kinds.now w.in-Two.form c.loop-step.columns w.in_ok-right-in-Two.right w.in_ok-columns-in-Two.columns) (w.in_ok-right-in-Two.ensures.same ∙ c.loop-step.invariant.same) w.in_ok-columns-in-Two.ensures.ok));
+        below = (goes_below c.pop.new.self.items c.loop-step.steps.items c.in-Some.step (size-Query c.args.query.now) c.in-Some.ensures.items c.loop-step.invariant.below).0;
+      }
     ]
 
 pub returns-clause-ok : goal.returns-clause-ok
