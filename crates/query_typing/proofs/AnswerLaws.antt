@@ -24,7 +24,7 @@ use Rattle.query_typing.specs.Parts.{PartIs}
 use Rattle.values.specs.declared.value.Kind.{Kind}
 use Rattle.vra_syntax.specs.declared.query.Query.{Query}
 use Rattle.vschema.specs.declared.catalog.Table.{Table}
-use Rattle.query_typing.specs.Answer.{answer_column, answer_columns}
+use Rattle.query_typing.specs.Answer.{answer_columns}
 
 -- in an admitted variant the same columns are there
 

@@ -1,5 +1,5 @@
 -- Lists of cases: what is put behind them.
-use Rattle.std.proofs.Common.{◌≡◌, ◌&&◌, ℕ, Bool, true, false, not, List, [], ◌∷◌, ◌++◌, refl, sym, ◌∙◌, ap, append_assoc, map, if◌then◌else◌}
+use Rattle.std.proofs.Common.{◌≡◌, ◌&&◌, ℕ, Bool, true, false, not, List, [], ◌∷◌, ◌++◌, refl, sym, ◌∙◌, ap, append_assoc, if◌then◌else◌}
 use Rattle.std.proofs.lemmas.List.{append-nil}
 use Rattle.feature_expr.specs.Satisfaction.{satisfies}
 use Rattle.feature_expr.specs.declared.expr.Expr.{Expr}
@@ -9,7 +9,6 @@ use Rattle.query_meaning.specs.PlainTypes.{absent_name, twice}
 use Rattle.query_meaning.specs.Typing.{columns_at, heading}
 use Rattle.query_meaning.specs.declared.ill.IllCase.TheVariants as ill
 use Rattle.query_meaning.specs.declared.typed.TypedColumn.{TypedColumn}
-use Rattle.relational_algebra.specs.Columns.{repeated}
 use Rattle.values.specs.declared.column_name.ColName.{ColName}
 
 -- a case that holds where the path does and something else doesn't

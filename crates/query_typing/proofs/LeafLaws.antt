@@ -6,9 +6,8 @@ use Rattle.feature_expr.specs.Satisfaction.{satisfies}
 use Rattle.feature_expr.specs.declared.expr.Expr.{Expr}
 use Rattle.plain_relation.specs.Relations.{Column, columns_of}
 use Rattle.query_meaning.specs.PlainTypes.{Columns, TypedPart, type_step, typed_part}
-use Rattle.query_meaning.specs.Sources.{Source, catalog_source, number_of, source_by, source_named, source_of, table_column, table_named}
-use Rattle.query_meaning.specs.Typing.{columns_at, heading, headings, stored_column}
-use Rattle.query_meaning.specs.declared.typed.TypedColumn.{TypedColumn}
+use Rattle.query_meaning.specs.Sources.{Source, catalog_source, number_of, source_by, source_of, table_column, table_named}
+use Rattle.query_meaning.specs.Typing.{columns_at, headings, stored_column}
 use Rattle.query_typing.proofs.Connectives.{and_holds}
 use Rattle.query_typing.specs.Leaves.{leaf_stored, stored_of}
 use Rattle.query_typing.specs.Parts.{PartIs}
@@ -18,7 +17,7 @@ use Rattle.vra_syntax.specs.declared.query.Query.{roll-Query}
 use Rattle.vra_syntax.specs.declared.query.Query as query
 use Rattle.vra_syntax.specs.declared.query.Query.TheFolds.{fold-roll-Query}
 use Rattle.vra_syntax.specs.declared.query.Query.TheOpen.{Query-F}
-use Rattle.vschema.specs.Variants.{column_at, places_at}
+use Rattle.vschema.specs.Variants.{column_at}
 use Rattle.vschema.specs.declared.catalog.Column as catalog
 use Rattle.vschema.specs.declared.catalog.Table.{Table}
 use denote.Hole.Carrier

@@ -1,12 +1,11 @@
 -- Queries that were taken apart from the left: what is reached, and what passes up.
-use Rattle.std.proofs.Common.{◌≡◌, ℕ, ◌+◌, ◌≤◌, ◌<◌, ◌&&◌, max, rules, Bool, true, false, not, List, [], ◌∷◌, ◌++◌, Some, None, refl, sym, ◌∙◌, ap, subst, inl, inr, ◌⊎◌, arith, if◌then◌else◌}
+use Rattle.std.proofs.Common.{◌≡◌, ℕ, ◌≤◌, ◌<◌, max, rules, Bool, true, false, not, List, [], ◌∷◌, ◌++◌, refl, sym, ◌∙◌, ap, subst, inl, inr, arith, if◌then◌else◌}
 use Rattle.condition_sat.proofs.PossibleLaws.{and_first, and_second}
-use Rattle.condition_sat.specs.Admitted.{IsAdmitted}
 use Rattle.feature_expr.specs.Satisfaction.{satisfies}
 use Rattle.feature_expr.specs.declared.expr.Expr.{Expr}
 use Rattle.plain_relation.specs.Relations.{Column}
 use Rattle.query_meaning.specs.Cases.{Case, IsOneOf}
-use Rattle.query_meaning.specs.PlainTypes.{PlainType, Columns, Ill, TypedPart, cases_of, chosen_type, or_cases, over, plain_type, type_step, typed_part}
+use Rattle.query_meaning.specs.PlainTypes.{PlainType, Columns, Ill, TypedPart, cases_of, chosen_type, or_cases, over, type_step, typed_part}
 use Rattle.query_typing.specs.Parts.{one_typed, two_typed}
 use Rattle.query_typing.specs.Steps.{AreReached, chosen_reached, deepest, depth_of, left_reached, rewrapped, right_reached, wrapped, one_wrapped, two_wrapped}
 use Rattle.query_typing.specs.declared.form.Form.{Form}

@@ -1,17 +1,15 @@
 -- The walk over a query: what its next step makes of the columns of a part, and what passes up.
-use Rattle.std.proofs.Common.{◌≡◌, ℕ, ◌≤◌, Bool, true, false, not, List, [], ◌∷◌, ◌++◌, Option, refl, sym, ◌∙◌, ap, subst, if◌then◌else◌}
+use Rattle.std.proofs.Common.{◌≡◌, ℕ, Bool, true, false, not, List, [], ◌∷◌, ◌++◌, Option, refl, sym, ◌∙◌, ap, subst, if◌then◌else◌}
 use Rattle.condition_sat.proofs.PossibleLaws.{both}
-use Rattle.condition_sat.specs.Admitted.{IsAdmitted}
 use Rattle.feature_expr.specs.Satisfaction.{satisfies}
 use Rattle.feature_expr.specs.declared.expr.Expr.{Expr}
 use Rattle.plain_relation.specs.Relations.{Column}
-use Rattle.query_meaning.specs.Cases.{Case, IsOneOf, case_of}
+use Rattle.query_meaning.specs.Cases.{IsOneOf, case_of}
 use Rattle.query_meaning.specs.PlainTypes.{PlainType, Columns, TypedPart, cases_of, chosen_type, typed_part}
 use Rattle.query_meaning.specs.Typing.{columns_at, headings}
 use Rattle.query_meaning.specs.declared.typed.TypedColumn.{TypedColumn}
 use Rattle.query_typing.proofs.LeafLaws.{leaf_is}
 use Rattle.query_typing.proofs.StepLaws.{case_up, one_part, reached_pop, rewrapped_push, right_up, two_part}
-use Rattle.query_typing.specs.Faults.{RefusesCase, ShowsIn}
 use Rattle.query_typing.specs.Leaves.{leaf_stored}
 use Rattle.query_typing.specs.Parts.{PartFails, PartIs, Standing, TwoFails, TwoIs, one_typed, plain_part, two_typed}
 use Rattle.query_typing.specs.Steps.{AreReached, chosen_reached, leaf_query, left_reached, one_wrapped, rewrapped, right_reached, two_wrapped, wrapped}

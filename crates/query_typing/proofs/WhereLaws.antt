@@ -1,14 +1,13 @@
 -- Cases that are asked about where one of some columns is there.
-use Rattle.std.proofs.Common.{◌≡◌, ◌&&◌, ℕ, Bool, true, false, List, [], ◌∷◌, ◌++◌, refl, sym, ◌∙◌, ap, subst, Some}
+use Rattle.std.proofs.Common.{◌≡◌, ◌&&◌, ℕ, true, List, [], ◌∷◌, ◌++◌, refl, sym, ◌∙◌, ap, subst}
 use Rattle.condition_sat.proofs.PossibleLaws.{and_first, and_second, both}
-use Rattle.condition_sat.specs.Admitted.{IsAdmitted}
 use Rattle.conditional_columns.specs.ColumnLists.{is_some_there}
 use Rattle.feature_expr.specs.Satisfaction.{satisfies}
 use Rattle.feature_expr.specs.declared.expr.Expr.{Expr}
 use Rattle.plain_relation.specs.Relations.{Column}
 use Rattle.query_meaning.specs.Cases.{Case, IsOneOf, case_of}
 use Rattle.query_meaning.specs.PlainTypes.{where_any}
-use Rattle.query_typing.specs.Faults.{NoCase, RefusesCase, ShowsIn, fault_at, faults_at}
+use Rattle.query_typing.specs.Faults.{NoCase, RefusesCase, faults_at}
 use Rattle.query_typing.specs.declared.fault.Fault.{Fault}
 use Rattle.query_typing.specs.declared.refused.CaseRefused.{CaseRefused}
 use Rattle.query_typing.specs.declared.refused.CaseRefused.TheVariants as refused

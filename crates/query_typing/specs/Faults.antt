@@ -1,5 +1,5 @@
 -- What is asked about a part of a query: cases, each with the condition of the variants in which it holds.
-use Rattle.std.specs.Prelude.{ℕ, ◌≡◌, ◌&&◌, Bool, true, false, List, [], ◌∷◌, Option, Some, None, if◌then◌else◌}
+use Rattle.std.specs.Prelude.{ℕ, ◌≡◌, true, false, List, [], ◌∷◌, Option, Some, None, if◌then◌else◌}
 use Rattle.std.specs.List.{flat_map}
 use Rattle.condition_sat.specs.Admitted.{IsAdmitted}
 use Rattle.feature_expr.specs.Satisfaction.{satisfies}

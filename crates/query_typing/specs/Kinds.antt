@@ -1,5 +1,5 @@
 -- The kinds that an operand has in some variants, and when two operands have different ones.
-use Rattle.std.specs.Prelude.{ℕ, Bool, not, List, [], ◌∷◌, map, Option, option_to_list, if◌then◌else◌}
+use Rattle.std.specs.Prelude.{ℕ, List, [], ◌∷◌, map, option_to_list, if◌then◌else◌}
 use Rattle.conditional_columns.specs.ColumnLists.{with_name}
 use Rattle.feature_expr.specs.Expressions.{and_of, or_of}
 use Rattle.feature_expr.specs.Satisfaction.{satisfies}

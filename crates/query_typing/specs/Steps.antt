@@ -1,7 +1,6 @@
 -- Queries that were taken apart from the left: each step goes round the left side inside it.
 use Rattle.std.specs.Prelude.{ℕ, ◌≡◌, ◌+◌, ◌&&◌, max, Bool, not, List, [], ◌∷◌, Option, Some, None}
 use Rattle.feature_expr.specs.Satisfaction.{satisfies}
-use Rattle.feature_expr.specs.declared.expr.Expr.{Expr}
 use Rattle.query_typing.specs.declared.form.Form.{Form}
 use Rattle.query_typing.specs.declared.form.Form.TheVariants as form
 use Rattle.query_typing.specs.declared.form.OneForm.{OneForm}
