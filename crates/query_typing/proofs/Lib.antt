@@ -1,0 +1,12 @@
+mod AnswerLaws
+mod BuildLaws
+mod Connectives
+mod FaultLaws
+mod FormLaws
+mod KindLaws
+mod LeafLaws
+mod SideLaws
+mod StepLaws
+mod WaitingLaws
+mod WalkLaws
+mod WhereLaws

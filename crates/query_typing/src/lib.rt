@@ -1,0 +1,24 @@
+//! The typing of queries, exact in every variant.
+//!
+//! The path of a type's file is part of this crate's interface: a specification above names it.
+#![tactic(auto)]
+
+mod absent;
+mod answer;
+mod ask_where;
+mod check;
+mod cond_cases;
+mod fault;
+mod form;
+mod kinds;
+mod leaf;
+mod refused;
+mod select;
+mod table;
+mod twice;
+mod two_forms;
+mod walk;
+
+pub use check::query_columns;
+pub use refused::CaseRefused;
+pub use walk::type_part;
