@@ -20,13 +20,6 @@ mod settle;
 mod union;
 mod way;
 
-pub use alias::aliased;
-pub use choice::chosen;
-pub use except::excepted;
-pub use filter::filtered;
-pub use join::joined;
-pub use keep::kept;
 pub use plan_run::run;
 pub use rows::{Rows, TableRows};
 pub use scan::scanned;
-pub use union::united;
