@@ -1,5 +1,5 @@
 mod CallLaws
-mod Connectives
+pub mod Connectives
 mod FewLaws
 mod FormLaws
 mod KeyLaws

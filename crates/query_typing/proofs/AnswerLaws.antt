@@ -18,7 +18,7 @@ use Rattle.query_meaning.specs.declared.ill.IllTyped.{IllTyped}
 use Rattle.query_meaning.specs.declared.ill.TypeRefused.{TypeRefused}
 use Rattle.query_meaning.specs.declared.ill.TypeRefused.TheVariants as refuses
 use Rattle.query_names.specs.NameCases.{RefusesNames}
-use Rattle.query_typing.proofs.Connectives.{holds_True}
+use Rattle.conditional_columns.proofs.Connectives.{holds_True}
 use Rattle.query_typing.specs.Faults.{ShowsIn}
 use Rattle.query_typing.specs.Parts.{PartIs}
 use Rattle.values.specs.declared.value.Kind.{Kind}

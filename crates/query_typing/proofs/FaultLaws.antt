@@ -6,7 +6,7 @@ use Rattle.std.proofs.lemmas.Grind.{flat_map-append}
 use Rattle.asked_conditions.specs.Found.{IsFound}
 use Rattle.condition_sat.proofs.PossibleLaws.{and_first, and_second}
 use Rattle.condition_sat.specs.Admitted.{IsAdmitted}
-use Rattle.query_typing.proofs.Connectives.{holds_True}
+use Rattle.conditional_columns.proofs.Connectives.{holds_True}
 use Rattle.feature_expr.specs.Satisfaction.{satisfies}
 use Rattle.feature_expr.specs.declared.expr.Expr.{Expr}
 use Rattle.feature_expr.specs.declared.expr.Expr as e

@@ -13,7 +13,7 @@ use Rattle.query_meaning.specs.PlainTypes.{is_other_kind, kinds_differ, operand_
 use Rattle.query_meaning.specs.Typing.{columns_at}
 use Rattle.query_meaning.specs.declared.ill.IllCase.TheVariants as ill
 use Rattle.query_meaning.specs.declared.typed.TypedColumn.{TypedColumn}
-use Rattle.query_typing.proofs.Connectives.{and_holds, holds_False, holds_True, or_holds}
+use Rattle.conditional_columns.proofs.Connectives.{and_holds, holds_False, holds_True, or_holds}
 use Rattle.query_typing.specs.Kinds.{column_kind, differ_from, kind_always, kinds_there, operand_kinds_where, other_from}
 use Rattle.query_typing.specs.declared.kinds.KindWhere.{KindWhere}
 use Rattle.relational_algebra.specs.Columns.{kinds_of, named}

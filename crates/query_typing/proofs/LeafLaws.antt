@@ -8,7 +8,7 @@ use Rattle.plain_relation.specs.Relations.{Column, columns_of}
 use Rattle.query_meaning.specs.PlainTypes.{Columns, TypedPart, type_step, typed_part}
 use Rattle.query_meaning.specs.Sources.{Source, catalog_source, number_of, source_by, source_of, table_column, table_named}
 use Rattle.query_meaning.specs.Typing.{columns_at, headings, stored_column}
-use Rattle.query_typing.proofs.Connectives.{and_holds}
+use Rattle.conditional_columns.proofs.Connectives.{and_holds}
 use Rattle.query_typing.specs.Leaves.{leaf_stored, stored_of}
 use Rattle.query_typing.specs.Parts.{PartIs}
 use Rattle.query_typing.specs.Steps.{leaf_query}

@@ -8,7 +8,7 @@ use Rattle.plain_relation.specs.Relations.{Column}
 use Rattle.query_meaning.specs.Cases.{Case}
 use Rattle.query_meaning.specs.PlainTypes.{asked, asked_step, comparison_cases}
 use Rattle.query_names.specs.Waiting.{nodes}
-use Rattle.query_typing.proofs.Connectives.{holds_True}
+use Rattle.conditional_columns.proofs.Connectives.{holds_True}
 use Rattle.query_typing.specs.Waiting.{waiting_at, waiting_count}
 use Rattle.query_typing.specs.declared.cond_cases.WaitingCond.{WaitingCond}
 use Rattle.values.specs.declared.value.Kind.{Kind}

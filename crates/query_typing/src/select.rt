@@ -131,7 +131,7 @@ fn keep_item(
     }
 }
 
-#[tactic(auto, using(crate::proofs::Connectives::holds_True))]
+#[tactic(auto, using(crate::proofs::Connectives::holds_always))]
 fn keep_always(
     alloc: Global,
     columns: &[TypedColumn],
