@@ -123,7 +123,7 @@ weighs_one l = rw (fold_out-Expr ℕ weight_step l) (node_weighs (map-Expr Expr 
 pub weighs_False : weight_of e.False ≡ 1
 weighs_False = ap weight_of (sym rolls-False) ∙ fold-roll-Expr ℕ weight_step Expr-F.False
 
-weighs_True : weight_of e.True ≡ 1
+pub weighs_True : weight_of e.True ≡ 1
 weighs_True = ap weight_of (sym rolls-True) ∙ fold-roll-Expr ℕ weight_step Expr-F.True
 
 weighs_And : (l r : Expr) → weight_of (e.And l r) ≡ 1 + weight_of l + weight_of r
@@ -194,11 +194,25 @@ not_weighs l = not_weighs_by l (out-Expr l)
 -- what they mention
 
 module _ (i : ℕ) where
-  none_in_True : mentions i e.True ≡ true → (b : Bool) → b ≡ true
+  pub none_in_True : mentions i e.True ≡ true → (b : Bool) → b ≡ true
   none_in_True h b = let no : mentions i e.True ≡ false = ap (mentions i) (sym rolls-True) ∙ fold-roll-Expr Bool (mentions_step i) Expr-F.True in absurd (cc (h, no))
 
   none_in_False : mentions i e.False ≡ true → (b : Bool) → b ≡ true
   none_in_False h b = let no : mentions i e.False ≡ false = ap (mentions i) (sym rolls-False) ∙ fold-roll-Expr Bool (mentions_step i) Expr-F.False in absurd (cc (h, no))
+
+  in_Not : (l : Expr) → mentions i (e.Not l) ≡ true → mentions i l ≡ true
+  in_Not l h = sym (ap (mentions i) (sym (rolls-Not l)) ∙ fold-roll-Expr Bool (mentions_step i) (Expr-F.Not l)) ∙ h
+
+  not_step_mentions : (l : Expr) (x : Expr-F Expr) → mentions i (not_step l x) ≡ true → mentions i l ≡ true
+  not_step_mentions l Expr-F.True h = none_in_False h _
+  not_step_mentions l Expr-F.False h = none_in_True h _
+  not_step_mentions l (Expr-F.Feature k) h = in_Not l h
+  not_step_mentions l (Expr-F.Not inner) h = in_Not l h
+  not_step_mentions l (Expr-F.And a b) h = in_Not l h
+  not_step_mentions l (Expr-F.Or a b) h = in_Not l h
+
+  pub not_mentions : (l : Expr) → mentions i (not_of l) ≡ true → mentions i l ≡ true
+  not_mentions l = not_step_mentions l (out-Expr l)
 
   in_And : (l r : Expr) → mentions i (e.And l r) ≡ true → (mentions i l || mentions i r) ≡ true
   in_And l r h = sym (ap (mentions i) (sym (rolls-And l r)) ∙ fold-roll-Expr Bool (mentions_step i) (Expr-F.And l r)) ∙ h

@@ -1,11 +1,12 @@
 mod CallLaws
 pub mod Connectives
 mod FewLaws
-mod FormLaws
+pub mod FormLaws
 mod KeyLaws
-mod ListLaws
+pub mod ListLaws
+pub mod MentionLaws
 mod RepeatLaws
-mod SettleLaws
-mod StoredLaws
+pub mod SettleLaws
+pub mod StoredLaws
 mod WaysLaws
-mod WeightLaws
+pub mod WeightLaws

@@ -1,12 +1,11 @@
 -- Lists of cases: what is put behind them.
-use Rattle.std.proofs.Common.{◌≡◌, ◌&&◌, ℕ, Bool, true, false, not, List, [], ◌∷◌, ◌++◌, refl, sym, ◌∙◌, ap, append_assoc, if◌then◌else◌}
+use Rattle.std.proofs.Common.{◌≡◌, ◌&&◌, ℕ, Bool, true, false, not, List, [], ◌∷◌, ◌++◌, refl, ◌∙◌, ap, append_assoc, if◌then◌else◌}
 use Rattle.std.proofs.lemmas.List.{append-nil}
 use Rattle.feature_expr.specs.Satisfaction.{satisfies}
 use Rattle.feature_expr.specs.declared.expr.Expr.{Expr}
 use Rattle.plain_relation.specs.Relations.{Column, has_name}
 use Rattle.query_meaning.specs.Cases.{Case, case}
-use Rattle.query_meaning.specs.PlainTypes.{absent_name, twice}
-use Rattle.query_meaning.specs.Typing.{columns_at, heading}
+use Rattle.query_meaning.specs.PlainTypes.{absent_name}
 use Rattle.query_meaning.specs.declared.ill.IllCase.TheVariants as ill
 use Rattle.query_meaning.specs.declared.typed.TypedColumn.{TypedColumn}
 use Rattle.values.specs.declared.column_name.ColName.{ColName}
@@ -24,23 +23,6 @@ absent_added c ks name path path' there absent cond old new there_is absent_is s
 pub again_added : (c : List ℕ) (column : TypedColumn) (ks : List Column) (again cond' cond : Expr) (old new : List Case) → satisfies c again ≡ has_name column.name ks → cond' ≡ column.cond → satisfies c cond ≡ (satisfies c cond' && satisfies c again) → new ≡ old ++ (if satisfies c cond then case ill.Twice column.name ∷ [] else []) → new ≡ old ++ (if satisfies c column.cond && has_name column.name ks then case ill.Twice column.name ∷ [] else [])
 again_added c column ks again cond' cond old new again_is same is added =
     added ∙ ap (λ b. old ++ (if b then case ill.Twice column.name ∷ [] else [])) (is ∙ ap (λ (x : Expr). satisfies c x && satisfies c again) same ∙ ap (λ b. satisfies c column.cond && b) again_is)
-
-twice_by : (s b : Bool) (h : Column) (ks : List Column) → has_name h.name ks ≡ b → (if s && b then case ill.Twice h.name ∷ [] else []) ++ twice ks ≡ twice (if s then h ∷ ks else ks)
-twice_by true true h ks is = rw is refl
-twice_by true false h ks is = rw is refl
-twice_by false b h ks is = refl
-
-pub twice_more : (c : List ℕ) (column : TypedColumn) (behind rest : List TypedColumn) (old new whole : List Case) → rest ≡ column ∷ behind → new ≡ old ++ (if satisfies c column.cond && has_name column.name (columns_at c behind) then case ill.Twice column.name ∷ [] else []) → old ++ twice (columns_at c rest) ≡ whole → new ++ twice (columns_at c behind) ≡ whole
-twice_more c column behind rest old new whole parts added before =
-    ap (λ (xs : List Case). xs ++ twice (columns_at c behind)) added
-    ∙ append_assoc old (if satisfies c column.cond && has_name column.name (columns_at c behind) then case ill.Twice column.name ∷ [] else []) (twice (columns_at c behind))
-    ∙ ap (λ (xs : List Case). old ++ xs) (twice_by (satisfies c column.cond) (has_name column.name (columns_at c behind)) (heading column) (columns_at c behind) refl)
-    ∙ ap (λ (ks : List TypedColumn). old ++ twice (columns_at c ks)) (sym parts) ∙ before
-
--- one list more in the place of the first of those that are left
-pub goes_on : {A : Type 0} (old one new rest all whole : List A) → all ≡ one ++ rest → new ≡ old ++ one → old ++ all ≡ whole → new ++ rest ≡ whole
-goes_on old one new rest all whole parts added before =
-    ap (λ xs. xs ++ rest) added ∙ append_assoc old one rest ∙ ap (λ xs. old ++ xs) (sym parts) ∙ before
 
 -- three things that are asked where a path holds
 pub three_added : (b : Bool) (f0 f1 f2 f3 xs ys zs : List Case) → f1 ≡ f0 ++ (if b then xs else []) → f2 ≡ f1 ++ (if b then ys else []) → f3 ≡ f2 ++ (if b then zs else []) → f3 ≡ f0 ++ (if b then xs ++ ys ++ zs else [])

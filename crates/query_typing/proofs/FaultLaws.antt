@@ -1,7 +1,7 @@
 -- Cases that are asked about, one after another.
-use Rattle.std.proofs.Common.{◌≡◌, ◌+◌, ◌<◌, ◌&&◌, ℕ, suc, Bool, true, false, List, [], ◌∷◌, ◌++◌, Option, Some, None, refl, sym, ◌∙◌, ap, subst, inl, inr, length, take, drop, get_or, add-one}
-use Rattle.std.proofs.Math.Seq.{drop-cons, take-suc}
-use Rattle.std.proofs.lemmas.List.{take-append-drop, append-nil}
+use Rattle.std.proofs.Common.{◌≡◌, ◌<◌, ◌&&◌, ℕ, suc, Bool, true, false, List, [], ◌∷◌, ◌++◌, Option, Some, None, refl, sym, ◌∙◌, ap, subst, inl, inr, length, take, drop, get_or}
+use Rattle.std.proofs.Math.Seq.{drop-cons}
+use Rattle.std.proofs.lemmas.List.{take-append-drop}
 use Rattle.std.proofs.lemmas.Grind.{flat_map-append}
 use Rattle.asked_conditions.specs.Found.{IsFound}
 use Rattle.condition_sat.proofs.PossibleLaws.{and_first, and_second}
@@ -48,9 +48,6 @@ shows_fault model reach fault c it admitted reached holds is why name = record {
 
 -- a list of them
 
-take_more : {A : Type 0} (xs : List A) (i : ℕ) (x : A) → i < length xs → x ≡ get_or xs i x → take (i + 1) xs ≡ take i xs ++ x ∷ []
-take_more xs i x below is = ap (λ n. take n xs) (add-one i) ∙ take-suc xs i x below ∙ ap (λ y. take i xs ++ y ∷ []) (sym is)
-
 whole_is : {A : Type 0} (xs : List A) (i : ℕ) (x : A) → i < length xs → x ≡ get_or xs i x → xs ≡ take i xs ++ x ∷ drop (suc i) xs
 whole_is xs i x below is = sym (take-append-drop i xs) ∙ ap (λ ys. take i xs ++ ys) (drop-cons xs i x below ∙ ap (λ y. y ∷ drop (suc i) xs) (sym is))
 
@@ -62,13 +59,6 @@ one_of_left [] right one is = absurd is
 one_of_right : (left right : List Case) (one : Case) → IsOneOf right one → IsOneOf (left ++ right) one
 one_of_right [] right one is = is
 one_of_right (x ∷ left) right one is = inr (one_of_right left right one is)
-
-pub asked_so_far : (model reach : Expr) (faults : List Fault) (fault : Fault) (i : ℕ) → i < length faults → fault ≡ get_or faults i fault → NoCase model reach (λ c. faults_at c (take i faults)) → NoCase model reach (λ c. fault_at c fault) → NoCase model reach (λ c. faults_at c (take (i + 1) faults))
-asked_so_far model reach faults fault i below is before now = record {
-  none = λ c admitted reached.
-      ap (faults_at c) (take_more faults i fault below is) ∙ flat_map-append (fault_at c) (take i faults) (fault ∷ [])
-      ∙ ap (λ xs. xs ++ faults_at c (fault ∷ [])) (before.none c admitted reached) ∙ append-nil (fault_at c fault) ∙ now.none c admitted reached;
-}
 
 pub asked_refused : (model before reach : Expr) (faults : List Fault) (fault : Fault) (i : ℕ) (why : CaseRefused) → before ≡ model → i < length faults → fault ≡ get_or faults i fault → RefusesCase before reach (λ c. fault_at c fault) why → RefusesCase model reach (λ c. faults_at c faults) why
 asked_refused model before reach faults fault i refused.Memory same below is shows = tt

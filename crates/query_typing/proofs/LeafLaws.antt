@@ -35,11 +35,11 @@ stored_there c table [] = refl
 stored_there c table (column ∷ columns) =
     by_has (satisfies c (and_of table.cond column.cond)) (satisfies c table.cond && satisfies c column.cond) (table_column column) (columns_at c (map (stored_column table) columns)) (map (column_at c table) columns) (and_holds c table.cond column.cond) (stored_there c table columns)
 
-same_source : (tables : List Table) (number : Option ℕ) → source_by (catalog_source tables) number ≡ source_of (option_and_then (slice_get tables) number)
+pub same_source : (tables : List Table) (number : Option ℕ) → source_by (catalog_source tables) number ≡ source_of (option_and_then (slice_get tables) number)
 same_source tables None = refl
 same_source tables (Some number) = refl
 
-possible_stored : (found : Option Table) → (source_of found).possible ≡ headings (stored_of found)
+pub possible_stored : (found : Option Table) → (source_of found).possible ≡ headings (stored_of found)
 possible_stored None = refl
 possible_stored (Some table) = sym (stored_headings table table.columns)
 

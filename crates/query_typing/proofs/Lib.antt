@@ -1,10 +1,15 @@
+mod AnswerBounds
 mod AnswerLaws
+mod BoundLaws
 mod BuildLaws
 mod Connectives
 mod FaultLaws
 mod FormLaws
+mod JoinLaws
 mod KindLaws
+mod LeafBounds
 mod LeafLaws
+mod PlanLaws
 mod SideLaws
 mod StepLaws
 mod WaitingLaws

@@ -8,17 +8,7 @@ use Rattle.query_meaning.specs.Cases.{Case, case}
 use Rattle.query_meaning.specs.PlainTypes.{columns_differ}
 use Rattle.query_meaning.specs.PossibleColumns.{all_among}
 use Rattle.query_meaning.specs.declared.ill.IllCase.TheVariants as ill
-use Rattle.relational_algebra.specs.Columns.{both_sides, first_name, same_columns}
-
-pub joined_there : (l r : List Column) (a b : Bool) (zero one two : List Column) → a ≡ is_some_there l → b ≡ is_some_there r → zero ≡ [] → one ≡ zero ++ (if b then l else []) → two ≡ one ++ (if a then r else []) → two ≡ both_sides l r
-joined_there [] [] a b zero one two a_is b_is start first second =
-    second ∙ ap (λ x. one ++ (if x then [] else [])) a_is ∙ append-nil one ∙ first ∙ ap (λ x. zero ++ (if x then [] else [])) b_is ∙ append-nil zero ∙ start
-joined_there [] (y ∷ r) a b zero one two a_is b_is start first second =
-    second ∙ ap (λ x. one ++ (if x then y ∷ r else [])) a_is ∙ append-nil one ∙ first ∙ ap (λ x. zero ++ (if x then [] else [])) b_is ∙ append-nil zero ∙ start
-joined_there (x ∷ l) [] a b zero one two a_is b_is start first second =
-    second ∙ ap (λ v. one ++ (if v then [] else [])) a_is ∙ append-nil one ∙ first ∙ ap (λ v. zero ++ (if v then x ∷ l else [])) b_is ∙ append-nil zero ∙ start
-joined_there (x ∷ l) (y ∷ r) a b zero one two a_is b_is start first second =
-    second ∙ ap (λ v. one ++ (if v then y ∷ r else [])) a_is ∙ ap (λ (v : List Column). v ++ (y ∷ r)) (first ∙ ap (λ v. zero ++ (if v then x ∷ l else [])) b_is ∙ ap (λ (v : List Column). v ++ (x ∷ l)) start)
+use Rattle.relational_algebra.specs.Columns.{first_name, same_columns}
 
 pub chosen_there : (l r : List Column) (a b : Bool) (zero one two : List Column) → b ≡ not a → zero ≡ [] → one ≡ zero ++ (if a then l else []) → two ≡ one ++ (if b then r else []) → two ≡ (if a then l else r)
 chosen_there l r true b zero one two is start first second =

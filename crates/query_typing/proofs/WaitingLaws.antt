@@ -2,23 +2,13 @@
 use Rattle.std.proofs.Common.{◌≡◌, ◌+◌, ◌<◌, ◌&&◌, ℕ, Bool, true, false, not, List, [], ◌∷◌, ◌++◌, refl, sym, ◌∙◌, ap, append_assoc, arith, if◌then◌else◌}
 use Rattle.std.proofs.lemmas.List.{append-nil}
 use Rattle.feature_expr.specs.Satisfaction.{satisfies}
-use Rattle.feature_expr.specs.declared.expr.Expr.{Expr}
-use Rattle.feature_expr.specs.declared.expr.Expr as e
 use Rattle.plain_relation.specs.Relations.{Column}
 use Rattle.query_meaning.specs.Cases.{Case}
-use Rattle.query_meaning.specs.PlainTypes.{asked, asked_step, comparison_cases}
+use Rattle.query_meaning.specs.PlainTypes.{asked}
 use Rattle.query_names.specs.Waiting.{nodes}
-use Rattle.conditional_columns.proofs.Connectives.{holds_True}
 use Rattle.query_typing.specs.Waiting.{waiting_at, waiting_count}
 use Rattle.query_typing.specs.declared.cond_cases.WaitingCond.{WaitingCond}
 use Rattle.values.specs.declared.value.Kind.{Kind}
-use Rattle.vra_syntax.specs.declared.cond.Cond.{Cond, roll-Cond}
-use Rattle.vra_syntax.specs.declared.cond.Cond as cond
-use Rattle.vra_syntax.specs.declared.cond.Cond.TheFolds.{fold-roll-Cond}
-use Rattle.vra_syntax.specs.declared.cond.Cond.TheOpen.{Cond-F}
-use Rattle.vra_syntax.specs.declared.cond.Op.{Op}
-use Rattle.vra_syntax.specs.declared.cond.Operand.{Operand}
-use denote.Hole.Carrier
 
 pub waiting_push : (c : List ℕ) (kinds : List Kind) (columns : List Column) (waiting : List WaitingCond) (one : WaitingCond) → waiting_at c kinds columns (waiting ++ one ∷ []) ≡ (if satisfies c one.path then asked c kinds one.cond.now columns else []) ++ waiting_at c kinds columns waiting
 waiting_push c kinds columns [] one = sym (append-nil (if satisfies c one.path then asked c kinds one.cond.now columns else []))
@@ -44,52 +34,6 @@ sides_put true false t n o xs ys w0 w1 w2 taken neg other one two =
     two ∙ ap (λ b. (if b then xs else []) ++ w1) taken ∙ one ∙ ap (λ b. (if b then ys else []) ++ w0) (other ∙ neg)
 sides_put false x t n o xs ys w0 w1 w2 taken neg other one two =
     two ∙ ap (λ b. (if b then xs else []) ++ w1) taken ∙ one ∙ ap (λ b. (if b then ys else []) ++ w0) other
-
-module _ (c : List ℕ) (kinds : List Kind) (columns : List Column) where
-  pub asked_Cmp : (left : Operand) (sign : Op) (right : Operand) → asked c kinds (cond.Cmp left sign right) columns ≡ comparison_cases kinds columns left right
-  unfolding roll-Cond Carrier.roll
-  asked_Cmp left sign right = fold-roll-Cond (List Case) (asked_step c kinds columns) (Cond-F.Cmp left sign right)
-
-  pub asked_Not : (inner : Cond) → asked c kinds (cond.Not inner) columns ≡ asked c kinds inner columns
-  unfolding roll-Cond Carrier.roll
-  asked_Not inner = fold-roll-Cond (List Case) (asked_step c kinds columns) (Cond-F.Not inner)
-
-  pub asked_And : (left right : Cond) → asked c kinds (cond.And left right) columns ≡ asked c kinds left columns ++ asked c kinds right columns
-  unfolding roll-Cond Carrier.roll
-  asked_And left right = fold-roll-Cond (List Case) (asked_step c kinds columns) (Cond-F.And left right)
-
-  pub asked_Or : (left right : Cond) → asked c kinds (cond.Or left right) columns ≡ asked c kinds left columns ++ asked c kinds right columns
-  unfolding roll-Cond Carrier.roll
-  asked_Or left right = fold-roll-Cond (List Case) (asked_step c kinds columns) (Cond-F.Or left right)
-
-  pub asked_Choice : (expr : Expr) (left right : Cond) → asked c kinds (cond.Choice expr left right) columns ≡ (if satisfies c expr then asked c kinds left columns else asked c kinds right columns)
-  unfolding roll-Cond Carrier.roll
-  asked_Choice expr left right = fold-roll-Cond (List Case) (asked_step c kinds columns) (Cond-F.Choice expr left right)
-
-  pub asked_True : asked c kinds cond.True columns ≡ []
-  unfolding roll-Cond Carrier.roll
-  asked_True = fold-roll-Cond (List Case) (asked_step c kinds columns) Cond-F.True
-
-  pub asked_False : asked c kinds cond.False columns ≡ []
-  unfolding roll-Cond Carrier.roll
-  asked_False = fold-roll-Cond (List Case) (asked_step c kinds columns) Cond-F.False
-
--- what waits in the place of a condition, or its cases put behind the others
-
-pub put_waiting : (p : Bool) (f w0 w1 these those : List Case) → these ≡ those → w1 ≡ (if p then those else []) ++ w0 → f ++ w1 ≡ f ++ ((if p then these else []) ++ w0)
-put_waiting p f w0 w1 these those same is = ap (λ (xs : List Case). f ++ xs) (is ∙ ap (λ (xs : List Case). (if p then xs else []) ++ w0) (sym same))
-
-pub put_behind : (p : Bool) (f0 f1 w these those : List Case) → these ≡ those → f1 ≡ f0 ++ (if p then those else []) → f1 ++ w ≡ f0 ++ ((if p then these else []) ++ w)
-put_behind p f0 f1 w these those same is =
-    ap (λ (xs : List Case). xs ++ w) (is ∙ ap (λ (xs : List Case). f0 ++ (if p then xs else [])) (sym same)) ∙ append_assoc f0 (if p then these else []) w
-
-pub put_nothing : (p : Bool) (f w these : List Case) → these ≡ [] → f ++ w ≡ f ++ ((if p then these else []) ++ w)
-put_nothing true f w these is = ap (λ (xs : List Case). f ++ (xs ++ w)) (sym is)
-put_nothing false f w these is = refl
-
--- at the first, a condition waits on a path that is always taken
-pub first_waits : (c : List ℕ) (kinds : List Kind) (columns : List Column) (one : WaitingCond) (f : List Case) → one.path ≡ e.True → f ++ waiting_at c kinds columns (one ∷ []) ≡ f ++ asked c kinds one.cond.now columns
-first_waits c kinds columns one f is = ap (λ b. f ++ ([] ++ (if b then asked c kinds one.cond.now columns else []))) (ap (satisfies c) is ∙ holds_True c)
 
 -- the last of those that wait is read
 pub last_read : (c : List ℕ) (kinds : List Kind) (columns : List Column) (before waiting next : List WaitingCond) (one : WaitingCond) (f0 f1 whole : List Case) → before ≡ waiting ++ one ∷ [] → f1 ++ waiting_at c kinds columns next ≡ f0 ++ ((if satisfies c one.path then asked c kinds one.cond.now columns else []) ++ waiting_at c kinds columns waiting) → f0 ++ waiting_at c kinds columns before ≡ whole → f1 ++ waiting_at c kinds columns next ≡ whole

@@ -1,5 +1,5 @@
 -- Cases that are asked about where one of some columns is there.
-use Rattle.std.proofs.Common.{◌≡◌, ◌&&◌, ℕ, true, List, [], ◌∷◌, ◌++◌, refl, sym, ◌∙◌, ap, subst}
+use Rattle.std.proofs.Common.{◌≡◌, ◌&&◌, ℕ, true, List, [], ◌∷◌, refl, sym, ◌∙◌, subst}
 use Rattle.condition_sat.proofs.PossibleLaws.{and_first, and_second, both}
 use Rattle.conditional_columns.specs.ColumnLists.{is_some_there}
 use Rattle.feature_expr.specs.Satisfaction.{satisfies}
@@ -7,8 +7,7 @@ use Rattle.feature_expr.specs.declared.expr.Expr.{Expr}
 use Rattle.plain_relation.specs.Relations.{Column}
 use Rattle.query_meaning.specs.Cases.{Case, IsOneOf, case_of}
 use Rattle.query_meaning.specs.PlainTypes.{where_any}
-use Rattle.query_typing.specs.Faults.{NoCase, RefusesCase, faults_at}
-use Rattle.query_typing.specs.declared.fault.Fault.{Fault}
+use Rattle.query_typing.specs.Faults.{NoCase, RefusesCase}
 use Rattle.query_typing.specs.declared.refused.CaseRefused.{CaseRefused}
 use Rattle.query_typing.specs.declared.refused.CaseRefused.TheVariants as refused
 
@@ -28,13 +27,6 @@ refuses_same model reach f g (refused.Ill it) same shows = record {
 }
 
 -- where there are no columns, nothing is asked
-
-nothing_where : (ks : List Column) → where_any ks [] ≡ []
-nothing_where [] = refl
-nothing_where (k ∷ ks) = refl
-
-pub none_where : (model reach : Expr) (there : List ℕ → List Column) (faults : List Fault) → faults ≡ [] → NoCase model reach (λ c. where_any (there c) (faults_at c faults))
-none_where model reach there faults is = record { none = λ c admitted reached. ap (λ fs. where_any (there c) (faults_at c fs)) is ∙ nothing_where (there c) }
 
 by_there : (ks : List Column) (cases : List Case) → (is_some_there ks ≡ true → cases ≡ []) → where_any ks cases ≡ []
 by_there [] cases none = refl
@@ -61,11 +53,3 @@ refused_where model reach present whole there cases (refused.Ill it) some is sho
       reached = and_first (satisfies c reach) (satisfies c present) holds;
       shown = subst (λ xs. IsOneOf xs (case_of it)) (sym (there_all (there c) (cases c) (sym (some c) ∙ and_second (satisfies c reach) (satisfies c present) holds))) shows.shown;
     }
-
--- cases put one behind another
-
-pub two_put : (f0 f1 f2 xs ys : List Case) → f0 ≡ [] → f1 ≡ f0 ++ xs → f2 ≡ f1 ++ ys → f2 ≡ xs ++ ys
-two_put f0 f1 f2 xs ys start one two = two ∙ ap (λ (v : List Case). v ++ ys) (one ∙ ap (λ (v : List Case). v ++ xs) start)
-
-pub three_put : (f0 f1 f2 f3 xs ys zs : List Case) → f0 ≡ [] → f1 ≡ f0 ++ xs → f2 ≡ f1 ++ ys → f3 ≡ f2 ++ zs → f3 ≡ xs ++ ys ++ zs
-three_put f0 f1 f2 f3 xs ys zs start one two three = three ∙ ap (λ (v : List Case). v ++ zs) (two_put f0 f1 f2 xs ys start one two)

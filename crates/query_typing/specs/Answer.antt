@@ -1,9 +1,14 @@
--- The columns of answers, made of columns under conditions.
+-- What answers are made of: columns under conditions, and a plan.
 use Rattle.std.specs.Prelude.{List, [], ◌∷◌, if◌then◌else◌}
 use Rattle.std.specs.List.{flat_map}
 use Rattle.condition_sat.specs.Possible.{can_hold, settled}
 use Rattle.feature_expr.specs.declared.expr.Expr.{Expr}
+use Rattle.query_meaning.specs.Typing.{IsPlanFor, IsWellTyped}
+use Rattle.query_meaning.specs.declared.plan.Plan.{Plan}
 use Rattle.query_meaning.specs.declared.typed.TypedColumn.{TypedColumn}
+use Rattle.values.specs.declared.value.Kind.{Kind}
+use Rattle.vra_syntax.specs.declared.query.Query.{Query}
+use Rattle.vschema.specs.declared.catalog.Table.{Table}
 
 -- a column that some admitted variant has, and without a condition where all have it
 abbrev pub answer_column : Expr → TypedColumn → List TypedColumn
@@ -11,3 +16,7 @@ answer_column model column = if can_hold model column.cond then record { name = 
 
 abbrev pub answer_columns : Expr → List TypedColumn → List TypedColumn
 answer_columns model columns = flat_map (answer_column model) columns
+
+-- a plan that is the query's wherever the query is well typed
+pub record HasPlan (tables : List Table) (query : Query) (p : Plan) : Type 0 where
+  pub is : (model : Expr) (kinds : List Kind) → IsWellTyped model kinds tables query → IsPlanFor model tables query p

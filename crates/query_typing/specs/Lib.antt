@@ -1,4 +1,5 @@
 pub mod Answer
+pub mod Bounded
 pub mod Faults
 pub mod Forms
 pub mod Kinds

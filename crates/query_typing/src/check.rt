@@ -1,12 +1,16 @@
-ghost use Rattle.std.specs.Prelude.{◌≡◌, ℕ, [], None, List as Numbers, IfErr, IfOk};
+ghost use Rattle.std.specs.Prelude.{◌≡◌, ◌≤◌, ℕ, [], None, List as Numbers, IfErr, IfOk};
 ghost use Rattle.std.specs.List.{AllByRecursion};
 ghost use Rattle.condition_sat.specs.Admitted.{IsAdmitted};
 ghost use Rattle.feature_expr.specs.declared.expr.Expr as e;
+ghost use Rattle.query_meaning.specs.Bounds.{empty_sizes, query_size};
 ghost use Rattle.query_meaning.specs.Names.{name_cases, too_wide};
 ghost use Rattle.query_meaning.specs.PlainTypes.{Columns, plain_type, typed_part};
-ghost use Rattle.query_meaning.specs.Typing.{IsSettled, Refuses, columns_at};
+ghost use Rattle.query_meaning.specs.PossibleColumns.{possible_columns};
+ghost use Rattle.query_meaning.specs.Typing.{IsSettled, Refuses, columns_at, columns_weight, headings};
 ghost use Rattle.query_meaning.specs.declared.typed.TypedColumn.{TypedColumn as TheColumn};
+ghost use Rattle.query_typing.specs.Bounded.{HasFeatures};
 ghost use Rattle.query_typing.specs.Parts.{PartFails};
+ghost use Rattle.relational_algebra.specs.Columns.{in_order_of};
 
 use crate::answer::settled_columns;
 use crate::refused::CaseRefused;
@@ -34,6 +38,9 @@ pub fn query_columns(
     ensures named { IfOk result (λ it. name_cases kinds.now tables.now.tables.now query.now ≡ []) }
     ensures exact { IfOk result (λ it. (c : Numbers ℕ) → IsAdmitted questions.old c → plain_type c kinds.now tables.now.tables.now query.now ≡ Columns (columns_at c it)) }
     ensures settled { IfOk result (λ it. AllByRecursion (λ (column : TheColumn). IsSettled questions.old column.cond) it) }
+    ensures ordered { IfOk result (λ it. headings it ≡ in_order_of (possible_columns tables.now.tables.now query.now) (headings it)) }
+    ensures weight { IfOk result (λ it. columns_weight it ≤ (query_size tables.now.tables.now (empty_sizes tables.now.tables.now) query.now).column_weight) }
+    ensures features { IfOk result (HasFeatures tables.now.tables.now query.now) }
     ensures refused { IfErr result (Refuses questions.old kinds.now tables.now.tables.now query.now) }
 {
     match check_names(alloc, tables, query, kinds) {
@@ -57,6 +64,9 @@ fn part_columns(
     ensures same { questions.new ≡ questions.old }
     ensures exact { IfOk result (λ it. (c : Numbers ℕ) → IsAdmitted questions.old c → plain_type c kinds.now tables.now.tables.now query.now ≡ Columns (columns_at c it)) }
     ensures settled { IfOk result (λ it. AllByRecursion (λ (column : TheColumn). IsSettled questions.old column.cond) it) }
+    ensures ordered { IfOk result (λ it. headings it ≡ in_order_of (possible_columns tables.now.tables.now query.now) (headings it)) }
+    ensures weight { IfOk result (λ it. columns_weight it ≤ (query_size tables.now.tables.now (empty_sizes tables.now.tables.now) query.now).column_weight) }
+    ensures features { IfOk result (HasFeatures tables.now.tables.now query.now) }
     ensures refused { IfErr result (PartFails questions.old e.True (λ c. typed_part c kinds.now tables.now.tables.now query.now)) }
 {
     let columns = type_part(alloc, questions, kinds, tables, query, Expr::True)?;

@@ -12,13 +12,16 @@ mod fault;
 mod form;
 mod kinds;
 mod leaf;
+mod query;
 mod refused;
 mod select;
-mod table;
 mod twice;
 mod two_forms;
 mod walk;
 
 pub use check::query_columns;
+pub use cond_cases::add_cond;
+pub use fault::{Fault, ShownName, add_fault, ask};
+pub use query::type_query;
 pub use refused::CaseRefused;
 pub use walk::type_part;

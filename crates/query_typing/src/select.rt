@@ -1,7 +1,11 @@
-ghost use Rattle.std.specs.Prelude.{◌≡◌, ◌++◌, ℕ, List as Numbers, IfErr, IfOk, OnOk};
+ghost use Rattle.std.specs.Prelude.{◌≡◌, ◌++◌, ℕ, map, List as Numbers, IfErr, IfOk, OnOk};
 ghost use Rattle.std.specs.List.{flat_map};
+ghost use Rattle.conditional_columns.specs.ColumnLists.{given_under, settled, with_name};
+ghost use Rattle.conditional_columns.specs.FormLists.{item_columns, kept_list};
+ghost use Rattle.feature_expr.specs.declared.expr.Expr as e;
 ghost use Rattle.query_meaning.specs.Typing.{columns_at, headings};
 ghost use Rattle.query_meaning.specs.PlainTypes.{absent_in_items, asked, twice, where_any};
+ghost use Rattle.query_typing.specs.Bounded.{alias_made, items_made};
 ghost use Rattle.query_typing.specs.Faults.{NoCase, RefusesCase};
 ghost use Rattle.query_typing.specs.Parts.{PartFails, PartIs};
 ghost use Rattle.relational_algebra.specs.Items.{given, kept_by, picked};
@@ -30,6 +34,7 @@ pub fn select_columns(
 ) -> Result<List<TypedColumn>, CaseRefused>
     ensures same { questions.new ≡ questions.old }
     ensures ok { IfOk result (PartIs questions.old reach.now (select_part kinds.now items.now cond.now source)) }
+    ensures made { IfOk result (λ it. it ≡ items_made items.now source) }
     ensures err { IfErr result (PartFails questions.old reach.now (select_part kinds.now items.now cond.now source)) }
 {
     match items {
@@ -55,6 +60,7 @@ fn select_all(
 ) -> Result<List<TypedColumn>, CaseRefused>
     ensures same { questions.new ≡ questions.old }
     ensures ok { IfOk result (PartIs questions.old reach.now (select_part kinds.now listed.All cond.now source)) }
+    ensures made { IfOk result (λ it. it ≡ source) }
     ensures err { IfErr result (PartFails questions.old reach.now (select_part kinds.now listed.All cond.now source)) }
 {
     ask_over(alloc, questions, kinds, reach, source.as_slice(), cond)?;
@@ -72,6 +78,7 @@ fn select_listed(
 ) -> Result<List<TypedColumn>, CaseRefused>
     ensures same { questions.new ≡ questions.old }
     ensures ok { IfOk result (PartIs questions.old reach.now (select_part kinds.now (listed.Listed items.now) cond.now source)) }
+    ensures made { IfOk result (λ it. it ≡ settled (kept_list source items.now)) }
     ensures err { IfErr result (PartFails questions.old reach.now (select_part kinds.now (listed.Listed items.now) cond.now source)) }
 {
     let kept = keep_columns(alloc, source.as_slice(), items)?;
@@ -106,6 +113,7 @@ fn keep_columns(
     columns: &[TypedColumn],
     items: &[Item],
 ) -> Result<List<TypedColumn>, Memory>
+    ensures exact { IfOk result (λ it. it ≡ kept_list columns.now items.now) }
     ensures there { IfOk result (λ it. (c : Numbers ℕ) → columns_at c it ≡ flat_map (kept_by c (columns_at c columns.now)) items.now) }
     ensures headings { IfOk result (λ it. headings it ≡ flat_map (picked (headings columns.now)) items.now) }
 {
@@ -122,6 +130,7 @@ fn keep_item(
     item: &Item,
     kept: &mut Vec<TypedColumn>,
 ) -> Result<(), Memory>
+    ensures exact { OnOk result (kept.new.items ≡ kept.old.items ++ item_columns columns.now item.now) }
     ensures there { OnOk result ((c : Numbers ℕ) → columns_at c kept.new.items ≡ columns_at c kept.old.items ++ kept_by c (columns_at c columns.now) item.now) }
     ensures headings { OnOk result (headings kept.new.items ≡ headings kept.old.items ++ picked (headings columns.now) item.now) }
 {
@@ -138,6 +147,7 @@ fn keep_always(
     item: &Item,
     kept: &mut Vec<TypedColumn>,
 ) -> Result<(), Memory>
+    ensures exact { OnOk result (kept.new.items ≡ kept.old.items ++ map (given_under (given item.now) e.True) (with_name item.now.column columns.now)) }
     ensures there { OnOk result ((c : Numbers ℕ) → columns_at c kept.new.items ≡ columns_at c kept.old.items ++ picked (columns_at c columns.now) item.now) }
     ensures headings { OnOk result (headings kept.new.items ≡ headings kept.old.items ++ picked (headings columns.now) item.now) }
 {
@@ -167,6 +177,7 @@ pub fn alias_columns(
 ) -> Result<List<TypedColumn>, CaseRefused>
     ensures same { questions.new ≡ questions.old }
     ensures ok { IfOk result (PartIs questions.old reach.now (alias_part kinds.now alias.now source)) }
+    ensures made { IfOk result (λ it. it ≡ alias_made alias.now source) }
     ensures err { IfErr result (PartFails questions.old reach.now (alias_part kinds.now alias.now source)) }
 {
     let all = behind(alloc, alias, source.as_slice())?;

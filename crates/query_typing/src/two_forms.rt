@@ -1,9 +1,12 @@
-ghost use Rattle.std.specs.Prelude.{◌≡◌, ◌&&◌, ◌++◌, ◌||◌, ℕ, not as negation, true, List as Numbers, IfErr, IfOk, OnOk, IsTrue, if◌then◌else◌};
-ghost use Rattle.conditional_columns.specs.ColumnLists.{is_some_there};
+ghost use Rattle.std.specs.Prelude.{◌≡◌, ◌&&◌, ◌++◌, ◌||◌, ℕ, not as negation, true, List as Numbers, IfErr, IfOk, OnOk, if◌then◌else◌};
+ghost use Rattle.conditional_columns.specs.ColumnLists.{is_some_there, settled};
+ghost use Rattle.conditional_columns.specs.FormLists.{chosen_list, united_list};
+ghost use Rattle.feature_expr.specs.Expressions.{not_of};
 ghost use Rattle.feature_expr.specs.Satisfaction.{satisfies};
 ghost use Rattle.query_meaning.specs.PlainTypes.{columns_differ};
 ghost use Rattle.query_meaning.specs.PossibleColumns.{all_among};
 ghost use Rattle.query_meaning.specs.Typing.{columns_at, headings};
+ghost use Rattle.query_typing.specs.Bounded.{AreJoined, JoinMade};
 ghost use Rattle.query_typing.specs.Faults.{NoCase, RefusesCase, faults_at};
 ghost use Rattle.query_typing.specs.Forms.{except_part, join_part, union_part};
 ghost use Rattle.query_typing.specs.Parts.{PartFails, PartIs};
@@ -13,8 +16,8 @@ use crate::ask_where::ask_over;
 use crate::fault::{Fault, ShownName, add_fault, ask};
 use crate::refused::CaseRefused;
 use asked_conditions::Questions;
-use conditional_columns::{add_where, all_in, any_in, settle};
-use feature_expr::{Expr, List, and, is_same_expr, not};
+use conditional_columns::{add_where, all_in, any_in, are_same, settle};
+use feature_expr::{Expr, List, and, not};
 use query_meaning::{IllCase, TypedColumn};
 use std::alloc::Global;
 use values::{Kind, Memory, TryCopy};
@@ -32,6 +35,7 @@ pub fn join_columns(
 ) -> Result<List<TypedColumn>, CaseRefused>
     ensures same { questions.new ≡ questions.old }
     ensures ok { IfOk result (PartIs questions.old reach.now (join_part kinds.now cond.now left right)) }
+    ensures made { IfOk result (JoinMade left right) }
     ensures err { IfErr result (PartFails questions.old reach.now (join_part kinds.now cond.now left right)) }
 {
     let all = both_columns(alloc, left.as_slice(), right.as_slice())?;
@@ -46,6 +50,7 @@ fn both_columns(
     left: &[TypedColumn],
     right: &[TypedColumn],
 ) -> Result<List<TypedColumn>, Memory>
+    ensures joined { IfOk result (AreJoined left.now right.now) }
     ensures there { IfOk result (λ it. (c : Numbers ℕ) → columns_at c it ≡ both_sides (columns_at c left.now) (columns_at c right.now)) }
     ensures headings { IfOk result (λ it. headings it ≡ headings left.now ++ headings right.now) }
 {
@@ -68,6 +73,7 @@ pub fn union_columns(
 ) -> Result<List<TypedColumn>, CaseRefused>
     ensures same { questions.new ≡ questions.old }
     ensures ok { IfOk result (PartIs questions.old reach.now (union_part kinds.now left right)) }
+    ensures made { IfOk result (λ it. it ≡ settled (united_list left right)) }
     ensures err { IfErr result (PartFails questions.old reach.now (union_part kinds.now left right)) }
 {
     ask_sides(alloc, questions, reach, &left, &right)?;
@@ -100,6 +106,7 @@ pub fn except_columns(
 ) -> Result<List<TypedColumn>, CaseRefused>
     ensures same { questions.new ≡ questions.old }
     ensures ok { IfOk result (PartIs questions.old reach.now (except_part kinds.now left right)) }
+    ensures made { IfOk result (λ it. it ≡ left) }
     ensures err { IfErr result (PartFails questions.old reach.now (except_part kinds.now left right)) }
 {
     ask_sides(alloc, questions, reach, &left, &right)?;
@@ -180,31 +187,6 @@ fn all_same(alloc: Global, left: &[TypedColumn], right: &[TypedColumn]) -> Resul
     Ok(both)
 }
 
-/// Whether two lists are the same, node by node.
-fn are_same(left: &[TypedColumn], right: &[TypedColumn]) -> bool
-    ensures { IsTrue result → left.now ≡ right.now }
-{
-    let mut others = right;
-    for column in left {
-        match others.split_first() {
-            Some((other, rest)) => {
-                if !is_same_column(column, other) {
-                    return false;
-                }
-                others = rest;
-            }
-            None => return false,
-        }
-    }
-    others.is_empty()
-}
-
-fn is_same_column(one: &TypedColumn, other: &TypedColumn) -> bool
-    ensures { IsTrue result → one.now ≡ other.now }
-{
-    one.name == other.name && one.kind == other.kind && is_same_expr(&one.cond, &other.cond)
-}
-
 /// The columns of a choice over those of its sides.
 pub fn choice_columns(
     alloc: Global,
@@ -212,6 +194,7 @@ pub fn choice_columns(
     left: List<TypedColumn>,
     right: List<TypedColumn>,
 ) -> Result<List<TypedColumn>, Memory>
+    ensures made { IfOk result (λ it. it ≡ settled (chosen_list expr.now left right)) }
     ensures headings { IfOk result (λ it. headings it ≡ merged (headings left) (headings right)) }
     ensures there { IfOk result (λ it. (c : Numbers ℕ) → columns_at c it ≡ in_order_of (merged (headings left) (headings right)) (if satisfies c expr.now then columns_at c left else columns_at c right)) }
 {
@@ -226,6 +209,7 @@ fn chosen_columns(
     left: &[TypedColumn],
     right: &[TypedColumn],
 ) -> Result<List<TypedColumn>, Memory>
+    ensures exact { IfOk result (λ it. it ≡ chosen_list expr.now left.now right.now) }
     ensures headings { IfOk result (λ it. headings it ≡ headings left.now ++ headings right.now) }
     ensures there { IfOk result (λ it. (c : Numbers ℕ) → columns_at c it ≡ (if satisfies c expr.now then columns_at c left.now else columns_at c right.now)) }
 {
@@ -238,7 +222,8 @@ fn chosen_columns(
 
 /// Holds where the expression doesn't.
 pub fn negated(alloc: Global, expr: &Expr) -> Result<Expr, Memory>
-    ensures { IfOk result (λ it. (c : Numbers ℕ) → satisfies c it ≡ negation (satisfies c expr.now)) }
+    ensures exact { IfOk result (λ it. it ≡ not_of expr.now) }
+    ensures holds { IfOk result (λ it. (c : Numbers ℕ) → satisfies c it ≡ negation (satisfies c expr.now)) }
 {
     let expr = expr.copy(alloc)?;
     let other = not(alloc, expr)?;

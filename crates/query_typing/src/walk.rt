@@ -1,5 +1,6 @@
 ghost use Rattle.std.specs.Prelude.{◌≡◌, IfErr, IfOk};
 ghost use Rattle.query_meaning.specs.PlainTypes.{typed_part};
+ghost use Rattle.query_typing.specs.Bounded.{IsBounded, TwoMade, one_made};
 ghost use Rattle.query_typing.specs.Parts.{PartFails, PartIs, TwoFails, TwoIs, one_typed, plain_part};
 
 use crate::form::{Apart, Form, OneForm, TwoForm, right_reach, taken_apart};
@@ -28,6 +29,7 @@ pub fn type_part(
 ) -> Result<List<TypedColumn>, CaseRefused>
     ensures same { questions.new ≡ questions.old }
     ensures ok { IfOk result (PartIs questions.old reach (λ c. typed_part c kinds.now tables.now.tables.now query.now)) }
+    ensures bounded { IfOk result (IsBounded tables.now.tables.now query.now) }
     ensures err { IfErr result (PartFails questions.old reach (λ c. typed_part c kinds.now tables.now.tables.now query.now)) }
 {
     let Apart {
@@ -60,6 +62,7 @@ fn one_columns(
 ) -> Result<List<TypedColumn>, CaseRefused>
     ensures same { questions.new ≡ questions.old }
     ensures ok { IfOk result (PartIs questions.old reach.now (λ c. one_typed c kinds.now form.entry (plain_part source c))) }
+    ensures made { IfOk result (λ it. it ≡ one_made form.entry source) }
     ensures err { IfErr result (PartFails questions.old reach.now (λ c. one_typed c kinds.now form.entry (plain_part source c))) }
 {
     match form {
@@ -86,6 +89,7 @@ fn two_columns(
 ) -> Result<List<TypedColumn>, CaseRefused>
     ensures same { questions.new ≡ questions.old }
     ensures ok { IfOk result (TwoIs questions.old reach.now kinds.now form.entry left right) }
+    ensures made { IfOk result (TwoMade form.entry left right) }
     ensures err { IfErr result (TwoFails questions.old reach.now kinds.now form.entry left right) }
 {
     match form {
