@@ -11,7 +11,7 @@ use Rattle.row_conditions.specs.Truths.{slots_of, truth_of}
 use Rattle.vra_syntax.specs.declared.cond.Cond.{Cond}
 use Rattle.vtable.specs.declared.table.VColumn.{VColumn}
 use Rattle.vtable.specs.declared.table.VRow.{VRow}
-use Rattle.plan_exec.specs.Tables.{false_layer, is_false, row_under}
+use Rattle.plan_exec.specs.Tables.{false_layer, is_false, row_meeting, row_under}
 
 false_is : is_false e.False ≡ true
 false_is = search (rules, e.the_lemmas)
@@ -37,6 +37,13 @@ nowhere cells l r h = rw (left_false l r (out-Expr l) h) refl
 
 pair_of : (cond : Cond) (columns others : List VColumn) (row other : VRow) (truth : Expr) (xs ys : List (Option Value)) → truth ≡ truth_of (slots_of columns xs ++ slots_of others ys) cond → xs ≡ row.cells → ys ≡ other.cells → truth ≡ truth_of (slots_of columns row.cells ++ slots_of others other.cells) cond
 pair_of cond columns others row other truth xs ys is x y = is ∙ ap₂ (λ a b. truth_of (slots_of columns a ++ slots_of others b) cond) x y
+
+-- a row of which the condition is nowhere true
+pub row_nowhere : (cond : Cond) (columns : List VColumn) (row : VRow) (out : List VRow) (truth : Expr) (xs : List (Option Value)) (b : Bool) → truth ≡ truth_of (slots_of columns xs) cond → xs ≡ row.cells → b ≡ is_false truth → b ≡ true → out ≡ out ++ option_to_list (row_meeting cond columns row)
+row_nowhere cond columns row out truth xs b is x found h =
+    let same : truth ≡ truth_of (slots_of columns row.cells) cond = is ∙ ap (λ cells. truth_of (slots_of columns cells) cond) x in
+    let none : is_false (truth_of (slots_of columns row.cells) cond) ≡ true = ap is_false (sym same) ∙ sym found ∙ h in
+    sym (ap (λ zs. out ++ zs) (nowhere row.cells row.cond (truth_of (slots_of columns row.cells) cond) none) ∙ append-nil out)
 
 -- a pair of which the condition is nowhere true
 pub pair_nowhere : (cond : Cond) (columns others : List VColumn) (row other : VRow) (out : List VRow) (truth : Expr) (xs ys : List (Option Value)) (b : Bool) → truth ≡ truth_of (slots_of columns xs ++ slots_of others ys) cond → xs ≡ row.cells → ys ≡ other.cells → b ≡ is_false truth → b ≡ true → out ≡ out ++ option_to_list (pair_meeting cond columns others row other)

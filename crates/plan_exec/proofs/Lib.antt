@@ -19,5 +19,12 @@ pub mod AliasLaws
 pub mod JoinLaws
 pub mod StepLaws
 pub mod FeatureLaws
+pub mod WeightLaws
+pub mod WayWeights
+pub mod CountLaws
+pub mod PairLaws
+pub mod SizeLaws
+pub mod GivenLaws
 pub mod RunLaws
 pub mod ScanLaws
+pub mod RunSizes

@@ -20,7 +20,6 @@ use Rattle.query_meaning.specs.declared.plan.Plan.TheOpen.{Plan-F}
 use Rattle.plan_exec.proofs.AliasLaws.{alias_answers, alias_columns, alias_formed, alias_headings}
 use Rattle.plan_exec.proofs.ChoiceLaws.{headings_under, left_answers, left_formed, right_answers, right_formed, to_is}
 use Rattle.plan_exec.proofs.ExceptLaws.{except_answers, except_formed}
-use Rattle.plan_exec.proofs.FeatureLaws.{run_known}
 use Rattle.plan_exec.proofs.FilterLaws.{filter_answers, filter_formed}
 use Rattle.plan_exec.proofs.JoinLaws.{join_answers, join_formed, wide_at}
 use Rattle.plan_exec.proofs.KeepLaws.{kept_none, items_columns, items_headings, keep_answers, keep_formed}
@@ -29,7 +28,7 @@ use Rattle.plan_exec.proofs.SettleLaws.{settled_at, settled_headings, settled_on
 use Rattle.plan_exec.proofs.UnionLaws.{union_answers, union_formed}
 use Rattle.plan_exec.specs.Merges.{aliased_column, aliased_table, columns_of_item, joined_table, kept_table}
 use Rattle.plan_exec.specs.RunTables.{empty_table, run_step, run_table, table_by}
-use Rattle.plan_exec.specs.Runs.{CanRun, IsMeaningOf, IsStored, database_of, heading, relation_by, rows_of, rows_source, source_by}
+use Rattle.plan_exec.specs.Runs.{CanRun, IsStored, database_of, heading, relation_by, rows_of, rows_source, source_by}
 use Rattle.plan_exec.specs.Tables.{any_of, chosen_table, columns_at, columns_under, excepted_table, filtered_table, headings, once_each, united_table}
 use Rattle.plan_exec.specs.declared.rows.TableRows.{TableRows}
 use Rattle.std.proofs.lemmas.List.{map-append}
@@ -117,7 +116,7 @@ module _ (c : List ℕ) where
   kept_distinct items (k ∷ ks) h = once_twice (kept c (Listed items) (k ∷ ks)) (nil_right (absent_in_items c (Listed items) (k ∷ ks)) (twice (kept c (Listed items) (k ∷ ks))) (nil_left (absent_in_items c (Listed items) (k ∷ ks) ++ twice (kept c (Listed items) (k ∷ ks))) (not_asked (k ∷ ks)) h))
 
   module _ (items : List Item) (t : VTable) where
-    kept_possible : (q : List Column) → q ≡ headings t.columns → possible_kept (Listed items) q ≡ headings (kept_table (Listed items) t).columns
+    pub kept_possible : (q : List Column) → q ≡ headings t.columns → possible_kept (Listed items) q ≡ headings (kept_table (Listed items) t).columns
     kept_possible q h = ap (possible_kept (Listed items)) h ∙ ap once (sym (items_headings items t.columns)) ∙ sym (settled_headings (flat_map (columns_of_item t.columns) items))
 
     kept_columns : columns_at c (kept_table (Listed items) t).columns ≡ kept_in_order (possible_kept (Listed items) (headings t.columns)) c (Listed items) (columns_at c t.columns)
@@ -171,7 +170,7 @@ module _ (c : List ℕ) where
   merged_of a b x y e f = ap₂ merged e f
 
   module _ (l r : VTable) where
-    both_possible : (a b : List Column) → a ≡ headings l.columns → b ≡ headings r.columns → merged a b ≡ once (headings (l.columns ++ r.columns))
+    pub both_possible : (a b : List Column) → a ≡ headings l.columns → b ≡ headings r.columns → merged a b ≡ once (headings (l.columns ++ r.columns))
     both_possible a b e f = ap₂ merged e f ∙ ap once (sym (map-append heading l.columns r.columns))
 
     union_fits : (tl tr : TypedPart) (ml mr : MeantPart) (pl pr : List Column) → Fits c l tl ml pl → Fits c r tr mr pr → Fits c (united_table l r) (record { possible = merged tl.possible tr.possible; type = over_both (union_type (merged tl.possible tr.possible)) tl.type tr.type }) (record { possible = merged ml.possible mr.possible; relation = united (merged ml.possible mr.possible) ml.relation mr.relation }) (merged pl pr)
@@ -214,7 +213,7 @@ module _ (c : List ℕ) where
           };
     }
 
-    join_possible : (cond : Cond) (a b : List Column) → a ≡ headings l.columns → b ≡ headings r.columns → merged a b ≡ headings (joined_table cond l r).columns
+    pub join_possible : (cond : Cond) (a b : List Column) → a ≡ headings l.columns → b ≡ headings r.columns → merged a b ≡ headings (joined_table cond l r).columns
     join_possible cond a b e f =
         ap₂ merged e f
         ∙ ap once (sym (map-append heading (columns_under (any_of r.columns) l.columns) (columns_under (any_of l.columns) r.columns) ∙ ap₂ (λ xs ys. xs ++ ys) (headings_under (any_of r.columns) l.columns) (headings_under (any_of l.columns) r.columns)))
@@ -247,7 +246,7 @@ module _ (c : List ℕ) where
           };
     }
 
-    chosen_possible : (expr : Expr) (a b : List Column) → a ≡ headings l.columns → b ≡ headings r.columns → merged a b ≡ headings (chosen_table expr l r).columns
+    pub chosen_possible : (expr : Expr) (a b : List Column) → a ≡ headings l.columns → b ≡ headings r.columns → merged a b ≡ headings (chosen_table expr l r).columns
     chosen_possible expr a b e f =
         ap₂ merged e f
         ∙ ap once (sym (map-append heading (columns_under expr l.columns) (columns_under (not_of expr) r.columns) ∙ ap₂ (λ xs ys. xs ++ ys) (headings_under expr l.columns) (headings_under (not_of expr) r.columns)))
@@ -286,7 +285,7 @@ module _ (c : List ℕ) where
             (chosen_answers expr tl tr ml mr pl pr f g b is (sym (ap (λ (x : Bool). cases_of (chosen_type (merged tl.possible tr.possible) (if x then tl.type else tr.type))) is) ∙ h))
 
   module _ (alias : List ℕ) (t : VTable) where
-    alias_possible : (q : List Column) → q ≡ headings t.columns → once (aliased alias q) ≡ headings (aliased_table alias t).columns
+    pub alias_possible : (q : List Column) → q ≡ headings t.columns → once (aliased alias q) ≡ headings (aliased_table alias t).columns
     alias_possible q h = ap (λ x. once (aliased alias x)) h ∙ ap once (sym (alias_headings alias t.columns)) ∙ sym (settled_headings (map (aliased_column alias) t.columns))
 
     alias_fits : (ty : TypedPart) (m : MeantPart) (p : List Column) → Fits c t ty m p → Fits c (aliased_table alias t) (record { possible = once (aliased alias ty.possible); type = over (alias_type (once (aliased alias ty.possible)) alias) ty.type }) (record { possible = once (aliased alias m.possible); relation = aliased_relation (once (aliased alias m.possible)) alias m.relation }) (once (aliased alias p))
@@ -312,7 +311,7 @@ module _ (c : List ℕ) where
 
   -- ---- the stored tables
 
-  once_as : (ks : List VColumn) → columns_are_distinct ks ≡ true → once_each (headings ks) ≡ true
+  pub once_as : (ks : List VColumn) → columns_are_distinct ks ≡ true → once_each (headings ks) ≡ true
   once_as [] h = refl
   once_as (k ∷ ks) h = once_one (list_any (form.same_column k) ks) refl h (once_as ks)
     where
@@ -391,11 +390,11 @@ found_by : (model : Expr) (number : ℕ) (table : TableRows) (tables : List Tabl
 found_by model number table tables true is stored rest = rw is stored
 found_by model number table tables false is stored rest = rw is rest
 
-all_stored : (model : Expr) (tables : List TableRows) → AllByRecursion (λ (table : TableRows). IsStored model table.rows) tables → (number : ℕ) → StoredBy model (rows_of tables number)
+pub all_stored : (model : Expr) (tables : List TableRows) → AllByRecursion (λ (table : TableRows). IsStored model table.rows) tables → (number : ℕ) → StoredBy model (rows_of tables number)
 all_stored model [] all number = tt
 all_stored model (table ∷ tables) all number = found_by model number table tables (table.table == number) refl all.0 (all_stored model tables all.1 number)
 
-same_itself : (one other : Relation) → one ≡ other → SameRelation one other
+pub same_itself : (one other : Relation) → one ≡ other → SameRelation one other
 same_itself one other is = subst (SameRelation one) is (record { columns = λ column. (λ x. x, λ x. x); rows = λ values. (λ x. x, λ x. x) })
 
 -- ---- the columns are the possible ones, whatever the variant
@@ -426,16 +425,8 @@ module _ (tables : List TableRows) where
   possible_layer (Plan-F.Choose expr l r) = possible_rolled (Plan-F.Choose expr l.0 r.0) (chosen_possible [] (run_table tables l.0) (run_table tables r.0) expr (plan_possible (rows_source tables) l.0) (plan_possible (rows_source tables) r.0) l.1 r.1)
   possible_layer Plan-F.Nothing = possible_rolled Plan-F.Nothing refl
 
-  run_possible : (p : Plan) → Q p
+  pub run_possible : (p : Plan) → Q p
   run_possible = ind-Plan Q (λ x y is. subst (λ z. Q (roll-Plan z)) is (possible_layer y))
 
-pub run_means : (model : Expr) (tables : List TableRows) (p : Plan) (table : VTable) → CanRun model tables p → table ≡ run_table tables p → IsMeaningOf model tables p table
-run_means model tables p table can is = subst (IsMeaningOf model tables p) (sym is) (record {
-  columns = sym (run_possible tables p);
-  formed = λ c admitted. (answered c admitted).answer;
-  means = λ c admitted. same_itself _ _ (answered c admitted).means;
-  features = λ feature. run_known feature tables p;
-})
-  where
-    answered : (c : List ℕ) (admitted : IsAdmitted model c) → Answered c (run_table tables p) (plan_type c (rows_source tables) p) (plan_meaning c (rows_source tables) (database_of tables c) p)
-    answered c admitted = (run_fits c model admitted tables (all_stored model tables can.stored) p).answers (can.sound.typed c admitted)
+pub run_answered : (model : Expr) (tables : List TableRows) (p : Plan) → CanRun model tables p → (c : List ℕ) → IsAdmitted model c → Answered c (run_table tables p) (plan_type c (rows_source tables) p) (plan_meaning c (rows_source tables) (database_of tables c) p)
+run_answered model tables p can c admitted = (run_fits c model admitted tables (all_stored model tables can.stored) p).answers (can.sound.typed c admitted)

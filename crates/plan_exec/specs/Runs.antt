@@ -89,14 +89,6 @@ abbrev pub tables_mention : ℕ → List TableRows → Bool
 tables_mention feature tables = list_any (λ (table : TableRows). table_mentions feature table.rows) tables
 
 -- Its columns are the plan's possible ones, in their order. In each admitted variant it is well formed, and is what the
--- configured plan means over the tables there. No feature stands in it that neither the plan nor a table has.
-pub record IsMeaningOf (model : Expr) (tables : List TableRows) (p : Plan) (table : VTable) : Type 0 where
-  pub columns : map heading table.columns ≡ plan_possible (rows_source tables) p
-  pub formed : (c : List ℕ) → IsAdmitted model c → IsAnswerAt c table
-  pub means : (c : List ℕ) → IsAdmitted model c → SameRelation (answer_at c table) (plan_meaning c (rows_source tables) (database_of tables c) p)
-  pub features : (feature : ℕ) → table_mentions feature table ≡ true → (plan_mentions feature p || tables_mention feature tables) ≡ true
-
--- Its columns are the plan's possible ones, in their order. In each admitted variant it is well formed, and is what the
 -- configured plan means over the tables there. Its rows and their conditions are within the plan's bounds, and
 -- no feature stands in it that neither the plan nor a table has.
 pub record IsRunOf (model : Expr) (tables : List TableRows) (p : Plan) (table : VTable) : Type 0 where

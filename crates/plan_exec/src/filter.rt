@@ -2,7 +2,7 @@ ghost use Rattle.std.specs.Prelude.{◌≡◌, ◌++◌, IfOk, OnOk};
 ghost use Rattle.std.specs.Option.{option_to_list};
 ghost use Rattle.plan_exec.specs.Tables.{filtered_table, row_meeting, rows_meeting};
 
-use crate::place::put_copied;
+use crate::place::{is_false, put_copied};
 use feature_expr::and;
 use row_conditions::row_truth;
 use std::alloc::Global;
@@ -10,7 +10,7 @@ use values::{List, Memory, TryCopy};
 use vra_syntax::Cond;
 use vtable::{VColumn, VRow, VTable};
 
-/// The rows of which the condition is true. A row is judged before it is copied.
+/// The rows of which the condition is true. A row is judged before any of it is copied.
 pub fn filtered(alloc: Global, cond: &Cond, table: &VTable) -> Result<VTable, Memory>
     ensures made { IfOk result (λ it. it ≡ filtered_table cond.now table.now) }
 {
@@ -44,6 +44,9 @@ fn put_meeting(
     ensures { OnOk result (out.new.items ≡ out.old.items ++ option_to_list (row_meeting cond.now columns.now row.now)) }
 {
     let truth = row_truth(alloc, cond, columns, row.cells.as_slice())?;
+    if is_false(&truth) {
+        return Ok(());
+    }
     let here = row.cond.copy(alloc)?;
     let both = and(alloc, here, truth)?;
     put_copied(alloc, &row.cells, both, out)?;

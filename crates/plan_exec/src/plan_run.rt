@@ -1,5 +1,5 @@
 ghost use Rattle.std.specs.Prelude.{◌≡◌, ◌≤◌, IfOk, OnOk};
-ghost use Rattle.plan_exec.specs.Runs.{CanRun, IsMeaningOf, rows_of};
+ghost use Rattle.plan_exec.specs.Runs.{CanRun, IsRunOf, rows_of};
 ghost use Rattle.plan_exec.specs.Tables.{filtered_table};
 ghost use Rattle.plan_exec.specs.RunTables.{rewrapped_table, run_table, table_by, wrapped_table};
 
@@ -13,7 +13,7 @@ use crate::rows::{Rows, TableRows};
 use crate::union::united;
 use condition_sat::Model;
 use feature_expr::Expr;
-use query_meaning::Plan;
+use query_meaning::{Plan, bound_laws};
 use std::alloc::Global;
 use std::sync::ledger::Ledger;
 use steps::Steps;
@@ -34,7 +34,6 @@ pub enum PlanStep<'a> {
 }
 
 /// The plan's answer in all variants at once. Nothing is done for each variant: the model is asked nothing.
-
 pub fn run<L: Ledger>(
     alloc: Global,
     plan: &Plan,
@@ -43,9 +42,10 @@ pub fn run<L: Ledger>(
     steps: &mut Steps<L>,
 ) -> Result<VTable, Memory>
     requires { CanRun model.now rows.now.tables plan.now }
-    ensures { IfOk result (λ table. IsMeaningOf model.now rows.now.tables plan.now table) }
+    ensures { IfOk result (λ table. IsRunOf model.now rows.now.tables plan.now table) }
 {
     let _model = model;
+    bound_laws();
     let table = run_plan(alloc, plan, rows.tables.as_slice(), steps)?;
     Ok(table)
 }
