@@ -1,0 +1,6 @@
+pub mod Answering
+pub mod Answers
+pub mod Held
+pub mod Openings
+pub mod Retyped
+pub mod Scans
