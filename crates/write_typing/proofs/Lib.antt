@@ -1,0 +1,4 @@
+mod ActingLaws
+mod FaultLaws
+mod OperandLaws
+mod ValueLaws

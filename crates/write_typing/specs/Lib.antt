@@ -1,0 +1,4 @@
+pub mod Acting
+pub mod Faults
+pub mod Operands
+pub mod Values
