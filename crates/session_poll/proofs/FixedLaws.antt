@@ -1,12 +1,12 @@
 -- The replies of fixed bytes are the messages that they stand for.
-use Rattle.std.proofs.Common.{◌≡◌, [], ◌∷◌, refl}
+use Rattle.std.proofs.Common.{◌≡◌, ℕ, List, [], ◌∷◌, refl}
 use Rattle.session_poll.specs.declared.replies.TheConstants.{EMPTY_AND_READY, NOT_BUILT, NOT_UTF8_AND_READY, OUT_OF_MEMORY, OUT_OF_MEMORY_AND_READY, READY}
 use Rattle.session_poll.specs.declared.refusal.Refusal.TheVariants as refusal
 use Rattle.session_poll.specs.Replies.{spelled, error_of, empty_query, out_of_memory, ready_for_query}
 use Rattle.session_poll.specs.Parts.{ready}
 use Rattle.session_poll.specs.State.{State}
 
-pub not_built_is : NOT_BUILT.now ≡ spelled (error_of refusal.NotBuilt ∷ [])
+pub not_built_is : NOT_BUILT.now ≡ spelled (error_of [] refusal.NotBuilt ∷ [])
 not_built_is = refl
 
 pub out_of_memory_is : OUT_OF_MEMORY.now ≡ spelled (out_of_memory ∷ [])
@@ -15,8 +15,8 @@ out_of_memory_is = refl
 pub out_of_memory_and_ready_is : (s : State) → OUT_OF_MEMORY_AND_READY.now ≡ spelled (out_of_memory ∷ ready_for_query (ready s) ∷ [])
 out_of_memory_and_ready_is s = refl
 
-pub not_utf8_and_ready_is : (s : State) → NOT_UTF8_AND_READY.now ≡ spelled (error_of refusal.NotUtf8 ∷ ready_for_query (ready s) ∷ [])
-not_utf8_and_ready_is s = refl
+pub not_utf8_and_ready_is : (names : List (List ℕ)) (s : State) → NOT_UTF8_AND_READY.now ≡ spelled (error_of names refusal.NotUtf8 ∷ ready_for_query (ready s) ∷ [])
+not_utf8_and_ready_is names s = refl
 
 pub empty_and_ready_is : (s : State) → EMPTY_AND_READY.now ≡ spelled (empty_query ∷ ready_for_query (ready s) ∷ [])
 empty_and_ready_is s = refl

@@ -7,16 +7,15 @@ use Rattle.session_poll.specs.declared.refusal.Refusal.{Refusal}
 use Rattle.session_poll.specs.declared.refusal.Refusal.TheVariants as refusal
 use Rattle.session_poll.specs.declared.session.Session.{Session}
 use Rattle.session_poll.specs.declared.state.Phase.TheVariants as phases
-use Rattle.session_poll.specs.Begins.{Begins}
 use Rattle.session_poll.specs.Courses.{Course, Follows, Then, goes, both}
-use Rattle.session_poll.specs.Parts.{Keeps, KeepsState, IsReady, IsEnded, IsTaken, Done, Takes, Told, ToldEnd, Failed, ready}
-use Rattle.session_poll.specs.Queries.{AnswersStatements, IsTextRead, Queries, Readies, RunsAs, RunsStatement, RunsOut, EndsQuery}
+use Rattle.session_poll.specs.Parts.{Keeps, KeepsState, IsReady, IsEnded, IsTaken, Done, Takes, Told, ToldEnd, Failed, Stopped, ready}
+use Rattle.session_poll.specs.Queries.{AnswersQuery, AnswersStatements, Completes, GoesOn, IsTextRead, Queries, Readies, RunsAs, RunsStatement, RunsOut, EndsQuery, query_of}
 use Rattle.session_poll.specs.Replies.{spelled, error_of, empty_query, out_of_memory, ready_for_query}
 use Rattle.session_poll.specs.Runs.{HasSnapshot}
 use Rattle.session_poll.specs.Session.{state_of, waiting_of}
 use Rattle.session_poll.specs.Errors.{Closes, Rejects, Runs, is_fixed}
 use Rattle.session_poll.specs.State.{State, in_phase, ended}
-use Rattle.session_poll.specs.Tables.{bare_table, AnswersTable}
+use Rattle.vra_syntax.specs.declared.query.Query.{Query}
 use Rattle.vra_syntax.specs.declared.statement.Statement.{Statement}
 use Rattle.session_poll.proofs.CourseLaws.{put_behind, put_bytes, fit_append, keeps_on, log_closed, log_kept}
 use Rattle.session_poll.proofs.FixedLaws.{empty_and_ready_is, not_built_is, not_utf8_and_ready_is, out_of_memory_and_ready_is, ready_is}
@@ -50,18 +49,18 @@ then_stops first second old new why d = record {
   room = d.room;
 }
 
-pub runs_through : (part : State → Course → Type 0) (old new : Session) → Done part old None new → Takes (Runs part) old new
-runs_through part old new d = record {
+pub runs_through : (names : List (List ℕ)) (part : State → Course → Type 0) (old new : Session) → Done part old None new → Takes (Runs names part) old new
+runs_through names part old new d = record {
   course = d.course;
-  rule_is = record { one = d.course; part_is = d.part_is; closes = subst (λ r. Closes r d.course d.course) (sym d.refused_is) refl };
+  rule_is = record { one = d.course; part_is = d.part_is; closes = subst (λ r. Closes names r d.course d.course) (sym d.refused_is) refl };
   state = d.state;
   put = d.put;
   keeps = d.keeps;
   fits = d.fits;
 }
 
-pub runs_failed : (part : State → Course → Type 0) (old mid new : Session) (why : Refusal) → Done part old (Some why) mid → Failed why mid new → Takes (Runs part) old new
-runs_failed part old mid new why d f =
+pub runs_failed : (names : List (List ℕ)) (part : State → Course → Type 0) (old mid new : Session) (why : Refusal) → Done part old (Some why) mid → Failed names why mid new → Takes (Runs names part) old new
+runs_failed names part old mid new why d f =
     let c : Course = goes d.course.events (d.course.replies ++ f.message ∷ ready_for_query (ready d.course.after) ∷ []) (ready d.course.after) in
     let state : state_of new ≡ ready d.course.after = f.state ∙ ap ready d.state in
     record {
@@ -69,7 +68,7 @@ runs_failed part old mid new why d f =
       rule_is = record {
         one = d.course;
         part_is = d.part_is;
-        closes = subst (λ r. Closes r d.course c) (sym d.refused_is) (record { message = f.message; told = f.told; course = refl });
+        closes = subst (λ r. Closes names r d.course c) (sym d.refused_is) (record { message = f.message; told = f.told; course = refl });
       };
       state = state;
       put = put_behind (waiting_of old) (waiting_of mid) (waiting_of new) d.course.replies (f.message ∷ ready_for_query (ready d.course.after) ∷ []) d.put f.put;
@@ -77,17 +76,40 @@ runs_failed part old mid new why d f =
       fits = λ has. ((d.fits has).0, (log_closed old new (ready d.course.after) (goes [] [] (ready d.course.after)) state refl refl has).1);
     }
 
+pub done_as : (part part' : State → Course → Type 0) (old : Session) (refused : Option Refusal) (new : Session) → ((c : Course) → part (state_of old) c → part' (state_of old) c) → Done part old refused new → Done part' old refused new
+done_as part part' old refused new is d = record {
+  course = d.course;
+  part_is = is d.course d.part_is;
+  refused_is = d.refused_is;
+  state = d.state;
+  put = d.put;
+  keeps = d.keeps;
+  fits = d.fits;
+  room = d.room;
+}
+
 pub takes_as : (rule rule' : State → Course → Type 0) (old new : Session) → ((c : Course) → rule (state_of old) c → rule' (state_of old) c) → Takes rule old new → Takes rule' old new
 takes_as rule rule' old new is t = record { course = t.course; rule_is = is t.course t.rule_is; state = t.state; put = t.put; keeps = t.keeps; fits = t.fits }
 
--- a statement, by whether it is a table's name
-pub runs_table : (opening : Opening) (first : Statement) (left : List Statement) (name : List ℕ) (old new : Session) → bare_table first ≡ Some name → Takes (Runs (Then Begins (AnswersTable opening name left))) old new → Takes (RunsStatement opening first left) old new
-runs_table opening first left name old new is t =
-    takes_as (Runs (Then Begins (AnswersTable opening name left))) (RunsStatement opening first left) old new (λ c r. subst (λ n. RunsAs opening n left (state_of old) c) (sym is) r) t
+-- a statement, by whether it is a query
+pub runs_query : (opening : Opening) (first : Statement) (left : List Statement) (query : Query) (old new : Session) → query_of first ≡ Some query → Takes (Runs opening.catalog.features (Completes (AnswersQuery opening query) left)) old new → Takes (RunsStatement opening first left) old new
+runs_query opening first left query old new is t =
+    takes_as (Runs opening.catalog.features (Completes (AnswersQuery opening query) left)) (RunsStatement opening first left) old new (λ c r. subst (λ n. RunsAs opening n left (state_of old) c) (sym is) r) t
 
-pub runs_other : (opening : Opening) (first : Statement) (left : List Statement) (old new : Session) → bare_table first ≡ None → Takes Rejects old new → Takes (RunsStatement opening first left) old new
+pub runs_other : (opening : Opening) (first : Statement) (left : List Statement) (old new : Session) → query_of first ≡ None → Takes Rejects old new → Takes (RunsStatement opening first left) old new
 runs_other opening first left old new is t =
     takes_as Rejects (RunsStatement opening first left) old new (λ c r. subst (λ n. RunsAs opening n left (state_of old) c) (sym is) r) t
+
+-- a statement, and the Query goes on behind it
+pub completes : (rule : Back → State → Course → Type 0) (message : Back) (left : List Statement) (old mid new : Session) (refused : Option Refusal) → Done (rule message) old None mid → Done (GoesOn message left) mid refused new → Done (Completes rule left) old refused new
+completes rule message left old mid new refused d e =
+    done_as (Then (rule message) (GoesOn message left)) (Completes rule left) old refused new (λ c is. record { message = message; is = is })
+    (then_goes (rule message) (GoesOn message left) old mid new refused d e)
+
+pub completes_not : (rule : Back → State → Course → Type 0) (left : List Statement) (old new : Session) (why : Refusal) → Stopped rule old why new → Done (Completes rule left) old (Some why) new
+completes_not rule left old new why s =
+    done_as (Then (rule s.message) (GoesOn s.message left)) (Completes rule left) old (Some why) new (λ c is. record { message = s.message; is = is })
+    (then_stops (rule s.message) (GoesOn s.message left) old new why s.done)
 
 -- the statements of a text
 pub leaves : (all : List Statement) (first : Statement) (left : List Statement) (old new : Session) → all ≡ first ∷ left → waiting_of new ≡ waiting_of old → state_of new ≡ in_phase (phases.Statements first left) (state_of old) → Keeps old new → Takes (AnswersStatements all) old new
@@ -121,7 +143,7 @@ pub query_read : (features : List (List ℕ)) (text : List ℕ) (statements : Li
 query_read features text statements old new read t =
     takes_as (AnswersStatements statements) (Queries features text) old new (λ c r. record { read = Ok statements; is_read = read; course = r }) t
 
-pub query_refused : (features : List (List ℕ)) (text : List ℕ) (why : Refusal) (old new : Session) → IsTextRead features text (Err why) → Failed why old new → Takes (Queries features text) old new
+pub query_refused : (features : List (List ℕ)) (text : List ℕ) (why : Refusal) (old new : Session) → IsTextRead features text (Err why) → Failed features why old new → Takes (Queries features text) old new
 query_refused features text why old new read f =
     let c : Course = goes [] (f.message ∷ ready_for_query (ready (state_of old)) ∷ []) (ready (state_of old)) in
     record {
@@ -143,41 +165,41 @@ said_empty old mid new r put keeps = record {
   fits = log_closed old new (ready (state_of old)) (goes [] [] (ready (state_of old))) r.state refl refl;
 }
 
-pub told_error : (why : Refusal) (old mid new : Session) → waiting_of mid ≡ waiting_of old ++ spelled (error_of why ∷ []) → waiting_of new ≡ waiting_of mid ++ READY.now → KeepsState old new → Told why old new
-told_error why old mid new m n keeps = record {
-  message = error_of why;
+pub told_error : (names : List (List ℕ)) (why : Refusal) (old mid new : Session) → waiting_of mid ≡ waiting_of old ++ spelled (error_of names why ∷ []) → waiting_of new ≡ waiting_of mid ++ READY.now → KeepsState old new → Told names why old new
+told_error names why old mid new m n keeps = record {
+  message = error_of names why;
   told = inl refl;
-  put = put_bytes (waiting_of old) (waiting_of mid) (waiting_of new) READY.now (error_of why ∷ []) (ready_for_query (ready (state_of old)) ∷ []) (ready_is (state_of old)) m n;
+  put = put_bytes (waiting_of old) (waiting_of mid) (waiting_of new) READY.now (error_of names why ∷ []) (ready_for_query (ready (state_of old)) ∷ []) (ready_is (state_of old)) m n;
   keeps = keeps;
 }
 
 out_put : (s : State) (old mid new : List ℕ) → mid ≡ old → new ≡ mid ++ OUT_OF_MEMORY_AND_READY.now → new ≡ old ++ spelled (out_of_memory ∷ ready_for_query (ready s) ∷ [])
 out_put s old mid new m n = n ∙ ap (λ (b : List ℕ). b ++ OUT_OF_MEMORY_AND_READY.now) m ∙ ap (λ (b : List ℕ). old ++ b) (out_of_memory_and_ready_is s)
 
-told_fixed : (why known : Refusal) (bytes : List ℕ) (old new : Session) → why ≡ known → bytes ≡ spelled (error_of known ∷ ready_for_query (ready (state_of old)) ∷ []) → waiting_of new ≡ waiting_of old ++ bytes → KeepsState old new → Told why old new
-told_fixed why known bytes old new is fixed put keeps = record {
-  message = error_of why;
+told_fixed : (names : List (List ℕ)) (why known : Refusal) (bytes : List ℕ) (old new : Session) → why ≡ known → bytes ≡ spelled (error_of names known ∷ ready_for_query (ready (state_of old)) ∷ []) → waiting_of new ≡ waiting_of old ++ bytes → KeepsState old new → Told names why old new
+told_fixed names why known bytes old new is fixed put keeps = record {
+  message = error_of names why;
   told = inl refl;
-  put = put ∙ ap (λ (b : List ℕ). waiting_of old ++ b) (fixed ∙ ap (λ w. spelled (error_of w ∷ ready_for_query (ready (state_of old)) ∷ [])) (sym is));
+  put = put ∙ ap (λ (b : List ℕ). waiting_of old ++ b) (fixed ∙ ap (λ w. spelled (error_of names w ∷ ready_for_query (ready (state_of old)) ∷ [])) (sym is));
   keeps = keeps;
 }
 
-pub told_not_utf8 : (why : Refusal) (old new : Session) → why ≡ refusal.NotUtf8 → waiting_of new ≡ waiting_of old ++ NOT_UTF8_AND_READY.now → KeepsState old new → Told why old new
-told_not_utf8 why old new is put keeps = told_fixed why refusal.NotUtf8 NOT_UTF8_AND_READY.now old new is (not_utf8_and_ready_is (state_of old)) put keeps
+pub told_not_utf8 : (names : List (List ℕ)) (why : Refusal) (old new : Session) → why ≡ refusal.NotUtf8 → waiting_of new ≡ waiting_of old ++ NOT_UTF8_AND_READY.now → KeepsState old new → Told names why old new
+told_not_utf8 names why old new is put keeps = told_fixed names why refusal.NotUtf8 NOT_UTF8_AND_READY.now old new is (not_utf8_and_ready_is names (state_of old)) put keeps
 
-pub told_out_of_memory : (why : Refusal) (old new : Session) → why ≡ refusal.OutOfMemory → waiting_of new ≡ waiting_of old ++ OUT_OF_MEMORY_AND_READY.now → KeepsState old new → Told why old new
-told_out_of_memory why old new is put keeps = told_fixed why refusal.OutOfMemory OUT_OF_MEMORY_AND_READY.now old new is (out_of_memory_and_ready_is (state_of old)) put keeps
+pub told_out_of_memory : (names : List (List ℕ)) (why : Refusal) (old new : Session) → why ≡ refusal.OutOfMemory → waiting_of new ≡ waiting_of old ++ OUT_OF_MEMORY_AND_READY.now → KeepsState old new → Told names why old new
+told_out_of_memory names why old new is put keeps = told_fixed names why refusal.OutOfMemory OUT_OF_MEMORY_AND_READY.now old new is (out_of_memory_and_ready_is (state_of old)) put keeps
 
-pub told_memory : (why : Refusal) (old mid new : Session) → is_fixed why ≡ false → waiting_of mid ≡ waiting_of old → waiting_of new ≡ waiting_of mid ++ OUT_OF_MEMORY_AND_READY.now → KeepsState old new → Told why old new
-told_memory why old mid new takes m n keeps = record {
+pub told_memory : (names : List (List ℕ)) (why : Refusal) (old mid new : Session) → is_fixed why ≡ false → waiting_of mid ≡ waiting_of old → waiting_of new ≡ waiting_of mid ++ OUT_OF_MEMORY_AND_READY.now → KeepsState old new → Told names why old new
+told_memory names why old mid new takes m n keeps = record {
   message = out_of_memory;
   told = inr (takes, refl);
   put = out_put (state_of old) (waiting_of old) (waiting_of mid) (waiting_of new) m n;
   keeps = keeps;
 }
 
-pub failed : (why : Refusal) (old mid new : Session) → Told why old mid → IsReady mid new → Failed why old new
-failed why old mid new t r = record {
+pub failed : (names : List (List ℕ)) (why : Refusal) (old mid new : Session) → Told names why old mid → IsReady mid new → Failed names why old new
+failed names why old mid new t r = record {
   message = t.message;
   told = t.told;
   state = r.state;
@@ -224,7 +246,7 @@ ran_out old mid new r put keeps = record {
 
 pub rejected : (old mid new : Session) → IsEnded mid new → waiting_of mid ≡ waiting_of old ++ NOT_BUILT.now → KeepsState old mid → Takes Rejects old new
 rejected old mid new r put keeps = record {
-  course = goes [] (error_of refusal.NotBuilt ∷ []) (ended (state_of old));
+  course = goes [] (error_of [] refusal.NotBuilt ∷ []) (ended (state_of old));
   rule_is = refl;
   state = r.state;
   put = ap (λ o. o.bytes) r.output ∙ put ∙ ap (λ (b : List ℕ). waiting_of old ++ b) not_built_is;

@@ -1,9 +1,10 @@
 -- What a step takes and what it does. A rule is a relation between the state before and the course of its step.
-use Rattle.std.specs.Prelude.{◌≡◌, ℕ, List, [], ◌++◌, Option, Some, None}
+use Rattle.std.specs.Prelude.{◌≡◌, ℕ, List, [], ◌++◌, Option, Some, None, ◌⊎◌}
 use Rattle.pg_messages.specs.declared.back.Back.{Back}
 use Rattle.pg_messages.specs.declared.front.Front.{Front}
 use Rattle.pg_messages.specs.declared.startup.Startup.{Startup}
 use Rattle.session_poll.specs.declared.refusal.Refusal.{Refusal}
+use Rattle.session_poll.specs.declared.refusal.Refusal.TheVariants as refusal
 use Rattle.session_poll.specs.State.{State}
 
 -- what a step begins with: a packet, a bad one, one that is all there and for which no memory was found, or the next
@@ -45,3 +46,16 @@ pub record Then (first second : State → Course → Type 0) (old : State) (all 
   pub one : Course
   pub first_is : first old one
   pub rest : Follows one.refused one second all
+
+-- refused exactly where there is a refusal
+abbrev pub Checked : Option Refusal → State → Course → Type 0
+Checked None old c = c ≡ goes [] [] old
+Checked (Some why) old c = c ≡ stops [] why old
+
+-- the state changes, and these replies are sent
+abbrev pub Does : (State → State) → List Back → State → Course → Type 0
+Does change replies old c = c ≡ goes [] replies (change old)
+
+-- want of memory may stand in the place of a rule
+abbrev pub OrMemory : (State → Course → Type 0) → State → Course → Type 0
+OrMemory rule old c = rule old c ⊎ (c ≡ stops [] refusal.OutOfMemory old)

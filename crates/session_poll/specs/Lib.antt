@@ -11,11 +11,11 @@ pub mod Polls
 pub mod Queries
 pub mod Replies
 pub mod Runs
-pub mod Scans
+pub mod Sends
 pub mod Servable
 pub mod Session
 pub mod Standing
 pub mod StartUps
 pub mod State
 pub mod Steps
-pub mod Tables
+pub mod Typings

@@ -5,8 +5,6 @@ use Rattle.session_poll.specs.declared.opening.Opening.{Opening}
 use Rattle.session_poll.specs.declared.refusal.Refusal.{Refusal}
 use Rattle.session_poll.specs.declared.session.Session.{Session}
 use Rattle.session_poll.specs.declared.state.Phase.TheVariants as phases
-use Rattle.session_poll.specs.Answers.{IsAnswer}
-use Rattle.session_poll.specs.AnswerMessages.{answer_messages, select_complete}
 use Rattle.session_poll.specs.Courses.{Course}
 use Rattle.session_poll.specs.Packets.{IsStartupMessage, IsQuery, IsReadAs}
 use Rattle.session_poll.specs.Errors.{Tells}
@@ -16,8 +14,6 @@ use Rattle.session_poll.specs.Session.{state_of, held_of, waiting_of, is_over}
 use Rattle.session_poll.specs.Standing.{works, IsFull}
 use Rattle.session_poll.specs.State.{State, in_phase, between, ended}
 use Rattle.session_poll.specs.Steps.{Step}
-use Rattle.vschema.specs.declared.catalog.Table.{Table}
-use Rattle.vtable.specs.declared.table.VTable.{VTable}
 
 -- the input stays
 pub record Keeps (old new : Session) : Type 0 where
@@ -102,16 +98,16 @@ pub record Takes (rule : State → Course → Type 0) (old new : Session) : Type
   pub fits : KeepsLog 0 old course new
 
 -- an error was told, and that the Query ended
-pub record Told (why : Refusal) (old new : Session) : Type 0 where
+pub record Told (names : List (List ℕ)) (why : Refusal) (old new : Session) : Type 0 where
   pub message : Back
-  pub told : Tells why message
+  pub told : Tells names why message
   pub put : waiting_of new ≡ waiting_of old ++ spelled (message ∷ ready_for_query (ready (state_of old)) ∷ [])
   pub keeps : KeepsState old new
 
 -- the state after it too
-pub record Failed (why : Refusal) (old new : Session) : Type 0 where
+pub record Failed (names : List (List ℕ)) (why : Refusal) (old new : Session) : Type 0 where
   pub message : Back
-  pub told : Tells why message
+  pub told : Tells names why message
   pub state : state_of new ≡ ready (state_of old)
   pub put : waiting_of new ≡ waiting_of old ++ spelled (message ∷ ready_for_query (ready (state_of old)) ∷ [])
   pub keeps : Keeps old new
@@ -148,15 +144,7 @@ abbrev pub Moves : Opening → Session → Bool → Session → Type 0
 Moves opening old true new = Moved opening old new
 Moves opening old false new = Idles old new
 
--- an answer to a table was put, and this is to follow it
-pub record PutsAnswer (opening : Opening) (number : ℕ) (table : Table) (complete : Back) (old new : Session) : Type 0 where
-  pub answer : VTable
-  pub is_answer : IsAnswer opening number table answer
-  pub follows : complete ≡ select_complete answer
-  pub put : waiting_of new ≡ waiting_of old ++ spelled (answer_messages opening.catalog.features answer)
-
--- an answer to a table and its CommandComplete were put
-pub record PutsAll (opening : Opening) (number : ℕ) (table : Table) (old new : Session) : Type 0 where
-  pub answer : VTable
-  pub is_answer : IsAnswer opening number table answer
-  pub put : waiting_of new ≡ waiting_of old ++ spelled (answer_messages opening.catalog.features answer ++ select_complete answer ∷ [])
+-- a part that has a message to be sent at its end stopped before
+pub record Stopped (rule : Back → State → Course → Type 0) (old : Session) (why : Refusal) (new : Session) : Type 0 where
+  pub message : Back
+  pub done : Done (rule message) old (Some why) new

@@ -1,77 +1,67 @@
 //! How an answer is spelled: its columns, and each of its rows under its condition.
 
 ghost use Rattle.std.specs.Prelude.{◌≡◌, ◌++◌, [], ◌∷◌, map, length, true, take, drop, IfOk, OnOk, OnErr};
-ghost use Rattle.session_poll.specs.AnswerMessages.{name_text, when_text, field_of, column_field, when_field, select_tag, select_complete};
+ghost use Rattle.session_poll.specs.AnswerMessages.{answer_messages, answer_too_long, name_text, when_text, field_of, column_field, when_field, select_tag};
 ghost use Rattle.session_poll.specs.AnswerMessages as spelling;
 ghost use Rattle.session_poll.specs.Output.{KeepsFront};
 ghost use Rattle.session_poll.specs.Replies.{spelled};
+ghost use Rattle.session_poll.specs.Sends.{Sends};
 
 use crate::output::Output;
-use crate::rows::put_data_row;
+use crate::refusal::Refusal;
+use crate::rows::put_rows;
 use feature_expr::{ColName, Expr, Features, Kind, List, Memory, Text, print_expr};
 use itoa::Buffer;
 use pg_messages::{Back, Field};
+use query_meaning::TypedColumn;
 use std::alloc::Global;
-use vtable::{VColumn, VRow, VTable};
+use vtable::VTable;
 
 /// Puts the description of an answer and its rows, all of them or none.
 pub fn put_answer(
     alloc: Global,
+    columns: &[TypedColumn],
     answer: &VTable,
     features: &Features,
     output: &mut Output,
-) -> Result<(), Memory>
+) -> Result<(), Refusal>
     requires { output.old.is_ready ≡ true }
-    ensures ok { OnOk result (output.new.bytes ≡ output.old.bytes ++ spelled (spelling.answer_messages features.now answer.now)) }
+    ensures ok { OnOk result (output.new.bytes ≡ output.old.bytes ++ spelled (answer_messages features.now columns.now answer.now)) }
+    ensures sends { Sends (answer_too_long features.now columns.now answer.now) result }
     ensures err { OnErr result (output.new.bytes ≡ output.old.bytes) }
     ensures ready { output.new.is_ready ≡ true }
 {
     let before = output.len();
-    let put = put_messages(alloc, answer, features, output);
+    let put = put_messages(alloc, columns, answer, features, output);
     if put.is_err() {
         output.truncate(before);
     }
     put
 }
 
-#[tactic(auto, using(crate::proofs::OutputLaws::begins_same, crate::proofs::OutputLaws::begins_as, crate::proofs::OutputLaws::begins_put, crate::proofs::OutputLaws::put_more))]
+/// That a row is too long is told before that the description is.
+#[tactic(auto, using(crate::proofs::OutputLaws::begins_same, crate::proofs::OutputLaws::begins_as, crate::proofs::OutputLaws::begins_put, crate::proofs::OutputLaws::put_more, crate::proofs::LengthLaws::rows_first, crate::proofs::LengthLaws::then_described))]
 fn put_messages(
     alloc: Global,
+    columns: &[TypedColumn],
     answer: &VTable,
     features: &Features,
     output: &mut Output,
-) -> Result<(), Memory>
+) -> Result<(), Refusal>
     requires { output.old.is_ready ≡ true }
-    ensures ok { OnOk result (output.new.bytes ≡ output.old.bytes ++ spelled (spelling.answer_messages features.now answer.now)) }
+    ensures ok { OnOk result (output.new.bytes ≡ output.old.bytes ++ spelled (answer_messages features.now columns.now answer.now)) }
+    ensures sends { Sends (answer_too_long features.now columns.now answer.now) result }
     ensures begins { KeepsFront output.old.bytes output.new.bytes }
     ensures ready { output.new.is_ready ≡ true }
 {
-    let description = describe(alloc, answer.columns.as_slice(), features)?;
-    output.put(&description)?;
-    put_rows(alloc, answer.rows.as_slice(), features, output)
-}
-
-#[tactic(auto, using(crate::proofs::OutputLaws::begins_same, crate::proofs::OutputLaws::begins_as, crate::proofs::OutputLaws::begins_put, crate::proofs::OutputLaws::put_more))]
-fn put_rows(
-    alloc: Global,
-    rows: &[VRow],
-    features: &Features,
-    output: &mut Output,
-) -> Result<(), Memory>
-    requires { output.old.is_ready ≡ true }
-    ensures ok { OnOk result (output.new.bytes ≡ output.old.bytes ++ spelled (map (spelling.data_row features.now) rows.now)) }
-    ensures begins { KeepsFront output.old.bytes output.new.bytes }
-    ensures ready { output.new.is_ready ≡ true }
-{
-    let mut cells = Vec::new(alloc);
-    'rows: for row in rows {
-        put_data_row(alloc, row, features, &mut cells, output)?;
-    }
-    Ok(())
+    let description = describe(alloc, columns, features)?;
+    let described = output.put_or_refuse(&description);
+    put_rows(alloc, answer.rows.as_slice(), features, output)?;
+    described
 }
 
 /// A field for each column, and last the field `when`, which holds each row's condition.
-fn describe(alloc: Global, columns: &[VColumn], features: &Features) -> Result<Back, Memory>
+fn describe(alloc: Global, columns: &[TypedColumn], features: &Features) -> Result<Back, Memory>
     ensures { IfOk result (λ it. it ≡ spelling.description features.now columns.now) }
 {
     let mut fields = Vec::with_capacity(alloc, columns.len())?;
@@ -84,7 +74,7 @@ fn describe(alloc: Global, columns: &[VColumn], features: &Features) -> Result<B
 }
 
 /// A column's name, and its condition where it isn't always there.
-fn field_name(alloc: Global, column: &VColumn, features: &Features) -> Result<Text, Memory>
+fn field_name(alloc: Global, column: &TypedColumn, features: &Features) -> Result<Text, Memory>
     ensures { IfOk result (λ it. it ≡ name_text column.now.name ++ when_text features.now column.now.cond) }
 {
     let mut text = Vec::new(alloc);
@@ -93,7 +83,8 @@ fn field_name(alloc: Global, column: &VColumn, features: &Features) -> Result<Te
     Ok(Text::from_vec(text))
 }
 
-fn push_name(name: &ColName, text: &mut Vec<u8>) -> Result<(), Memory>
+/// A column's name, behind its prefix and a point where it has one.
+pub fn push_name(name: &ColName, text: &mut Vec<u8>) -> Result<(), Memory>
     ensures { OnOk result (text.new.items ≡ text.old.items ++ name_text name.now) }
 {
     if let Some(prefix) = &name.prefix {
@@ -144,10 +135,10 @@ fn sized_field(name: Text, kind_number: u32, size: i16) -> Field
 }
 
 /// The message that ends an answer: how many rows it has.
-pub fn select_complete(alloc: Global, answer: &VTable) -> Result<Back, Memory>
-    ensures { IfOk result (λ it. it ≡ select_complete answer.now) }
+pub fn select_complete(alloc: Global, count: usize) -> Result<Back, Memory>
+    ensures { IfOk result (λ it. it ≡ spelling.select_complete count) }
 {
-    let tag = select_tag(alloc, answer.rows.len())?;
+    let tag = select_tag(alloc, count)?;
     Ok(Back::CommandComplete(tag))
 }
 

@@ -12,11 +12,11 @@ mod queries;
 mod refusal;
 mod replies;
 mod rows;
-mod scan;
 mod session;
+mod show;
 mod start_up;
 mod state;
-mod tables;
+mod untyped;
 
 pub use opening::Opening;
 pub use polled::Polled;

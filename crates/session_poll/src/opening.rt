@@ -1,29 +1,46 @@
-ghost use Rattle.std.specs.Prelude.{◌≡◌, ◌<◌, ◌^◌, length, slice_get, Some, None, IfSome, IfNone};
-ghost use Rattle.session_poll.specs.Tables.{number_of};
+ghost use Rattle.std.specs.Prelude.{◌≡◌, true, ℕ, List as Items, IfOk};
+ghost use Rattle.condition_sat.specs.Admitted.{IsAdmitted};
+ghost use Rattle.session_poll.specs.Servable.{IsServable};
+ghost use Rattle.vschema.specs.Formed.{IsFormed};
+ghost use Rattle.vschema.specs.Gaps.{have_all_values};
 
 use condition_sat::Model;
-use feature_expr::{List, Name};
-use vschema::{Catalog, OpeningRow, Table};
+use feature_expr::{List, Memory};
+use plan_exec::Rows;
+use query_answers::opening_rows;
+use std::alloc::Global;
+use vschema::{Catalog, OpeningRow};
 
-/// What a session answers from, as long as nothing is written: a catalogue, its opening rows, and its feature model,
-/// which the check of the catalogue gave.
+/// What a session answers from, as long as nothing is written: a catalogue, its opening rows, its feature model, which
+/// the check of the catalogue gave, and the rows as a query is answered from them.
 #[derive(Drop)]
 pub struct Opening {
     pub catalog: Catalog,
     pub rows: List<OpeningRow>,
     pub model: Model,
+    pub stored: Rows,
 }
 
 impl Opening {
-    /// The table with this name, and its number.
-    #[tactic(auto, using(crate::proofs::TableLaws::found_there))]
-    pub(crate) fn find(&self, name: &Name) -> Option<(u32, &Table)>
-        requires { length self.now.catalog.tables < 2 ^ 32 }
-        ensures some { IfSome result (λ found. (number_of self.now name.now ≡ Some found.0) × (slice_get self.now.catalog.tables found.0 ≡ Some found.1.now)) }
-        ensures none { IfNone result (number_of self.now name.now ≡ None) }
+    /// It takes memory for the rows, so that no query copies a table.
+    pub fn new(
+        alloc: Global,
+        catalog: Catalog,
+        rows: List<OpeningRow>,
+        model: Model,
+    ) -> Result<Opening, Memory>
+        requires model { model ≡ catalog.model }
+        requires formed { IsFormed catalog rows }
+        requires filled { (c : Items ℕ) → IsAdmitted catalog.model c → have_all_values c catalog.tables rows ≡ true }
+        ensures servable { IfOk result IsServable }
+        ensures same { IfOk result (λ it. (it.catalog ≡ catalog) × (it.rows ≡ rows)) }
     {
-        let number = self.catalog.find_table(name)?;
-        let table = self.catalog.tables.get(number as usize)?;
-        Some((number, table))
+        let stored = opening_rows(alloc, &catalog, rows.as_slice())?;
+        Ok(Opening {
+            catalog,
+            rows,
+            model,
+            stored,
+        })
     }
 }

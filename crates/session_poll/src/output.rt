@@ -3,11 +3,14 @@ ghost use Rattle.session_poll.specs.DataRows.{row_bytes};
 ghost use Rattle.session_poll.specs.declared.output.TheConstants.{CELLS_LIMIT};
 ghost use Rattle.pg_messages.specs.BackSpelling.{back_bytes};
 ghost use Rattle.session_poll.specs.Replies.{spelled};
+ghost use Rattle.session_poll.specs.AnswerMessages.{message_too_long, too_long_by};
 ghost use Rattle.session_poll.specs.Output.{KeepsFront, is_empty};
+ghost use Rattle.session_poll.specs.Sends.{Sends};
 ghost use Rattle.session_poll.specs.declared.output.TheConstants.{FIXED_SIZE};
 
+use crate::refusal::Refusal;
 use feature_expr::Memory;
-use pg_messages::{Back, encode_back};
+use pg_messages::{Back, EncodeRefused, encode_back};
 use std::alloc::Global;
 use std::marker::Model;
 
@@ -101,32 +104,54 @@ impl Output {
         let _fits = self.bytes.extend_from_slice(bytes);
     }
 
-    /// Puts a message behind the bytes that wait. One that is too long to be told counts as want of memory.
+    /// Puts a message behind the bytes that wait. One that can't be told counts as want of memory.
     pub fn put(&mut self, back: &Back) -> Result<(), Memory>
         requires { self.old.is_ready ≡ true }
         ensures ok { OnOk result (self.new.bytes ≡ self.old.bytes ++ back_bytes back.now) }
         ensures err { OnErr result (self.new.bytes ≡ self.old.bytes) }
         ensures ready { self.new.is_ready ≡ true }
     {
-        self.message.clear();
-        match encode_back(back, &mut self.message) {
-            Ok(()) => append(&mut self.bytes, self.message.as_slice()),
+        match self.put_or_refuse(back) {
+            Ok(()) => Ok(()),
             Err(_refused) => Err(Memory),
         }
     }
 
-    /// Puts a row of data, whose cells are these bytes, so many cells. One that is too long to be told counts as want of
-    /// memory.
-    pub fn put_row(&mut self, count: usize, cells: &[u8]) -> Result<(), Memory>
+    /// Puts a message behind the bytes that wait, or refuses one that is too long to be told.
+    pub fn put_or_refuse(&mut self, back: &Back) -> Result<(), Refusal>
+        requires { self.old.is_ready ≡ true }
+        ensures ok { OnOk result (self.new.bytes ≡ self.old.bytes ++ back_bytes back.now) }
+        ensures err { OnErr result (self.new.bytes ≡ self.old.bytes) }
+        ensures sends { Sends (message_too_long back.now) result }
+        ensures ready { self.new.is_ready ≡ true }
+    {
+        self.message.clear();
+        match encode_back(back, &mut self.message) {
+            Ok(()) => {
+                append(&mut self.bytes, self.message.as_slice())?;
+                Ok(())
+            }
+            Err(EncodeRefused::TooLong(length)) => Err(Refusal::TooLong(length)),
+            Err(_refused) => Err(Refusal::OutOfMemory),
+        }
+    }
+
+    /// Puts a row of data, whose cells are these bytes, so many cells, or refuses one that is too long to be told.
+    pub fn put_row(&mut self, count: usize, cells: &[u8]) -> Result<(), Refusal>
         requires { self.old.is_ready ≡ true }
         ensures ok { OnOk result (self.new.bytes ≡ self.old.bytes ++ row_bytes count cells.now) }
         ensures err { OnErr result (self.new.bytes ≡ self.old.bytes) }
+        ensures sends { Sends (too_long_by (length cells.now + 6)) result }
         ensures ready { self.new.is_ready ≡ true }
     {
-        if count > COUNT_LIMIT || cells.len() > CELLS_LIMIT {
-            return Err(Memory);
+        if cells.len() > CELLS_LIMIT {
+            return Err(Refusal::TooLong(cells.len() as u64 + 6));
         }
-        append_row(&mut self.bytes, count as u16, cells)
+        if count > COUNT_LIMIT {
+            return Err(Refusal::OutOfMemory);
+        }
+        append_row(&mut self.bytes, count as u16, cells)?;
+        Ok(())
     }
 
     /// Keeps the first bytes alone.

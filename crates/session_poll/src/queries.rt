@@ -2,16 +2,13 @@
 
 ghost use Rattle.std.specs.Prelude.{◌≡◌, ◌++◌, [], ◌∷◌, true, false, None, List as Items, OnOk, OnErr, MatchOption};
 ghost use Rattle.pg_messages.specs.declared.back.Back.{Back};
-ghost use Rattle.session_poll.specs.Begins.{Begins};
-ghost use Rattle.session_poll.specs.Courses.{Then};
 ghost use Rattle.session_poll.specs.Errors.{is_fixed, Rejects, Runs};
 ghost use Rattle.session_poll.specs.Parts.{Done, Takes, Told, ToldEnd, Failed, KeepsState, IsReady, IsEnded, IsTaken};
-ghost use Rattle.session_poll.specs.Queries.{AnswersStatements, Queries, Readies, RunsStatement, RunsOut, EndsQuery, IsTextRead};
+ghost use Rattle.session_poll.specs.Queries.{AnswersQuery, AnswersStatements, Completes, Queries, Readies, RunsStatement, RunsOut, EndsQuery, IsTextRead, query_of};
 ghost use Rattle.session_poll.specs.Replies.{spelled, error_of, empty_query};
 ghost use Rattle.session_poll.specs.Servable.{IsServable};
 ghost use Rattle.session_poll.specs.State.{in_phase};
 ghost use Rattle.session_poll.specs.declared.state.Phase.TheVariants as phases;
-ghost use Rattle.session_poll.specs.Tables.{AnswersTable, bare_table};
 
 use crate::opening::Opening;
 use crate::refusal::Refusal;
@@ -20,13 +17,13 @@ use crate::replies::{
 };
 use crate::session::Session;
 use crate::state::{Phase, Transaction};
-use feature_expr::{Features, List, Memory, Name, Text};
+use feature_expr::{Features, List, Memory, Text};
 use query_parser::parse;
 use std::alloc::Global;
 use std::collections::VecDeque;
 use std::marker::Model;
 use std::{mem, str};
-use vra_syntax::Statement;
+use vra_syntax::{Query, Statement};
 
 impl Session {
     /// Reads the text of a Query, whose statements are left to be run.
@@ -37,7 +34,7 @@ impl Session {
     {
         match read(self.alloc, text.as_slice(), features) {
             Ok(statements) => self.leave(statements),
-            Err(why) => self.fail(&why),
+            Err(why) => self.fail(&why, features),
         }
     }
 
@@ -74,38 +71,38 @@ impl Session {
     }
 
     /// Runs a statement behind which these are left.
-    #[tactic(auto, using(crate::proofs::QueryLaws::runs_table, crate::proofs::QueryLaws::runs_other))]
+    #[tactic(auto, using(crate::proofs::QueryLaws::runs_query, crate::proofs::QueryLaws::runs_other))]
     fn run_statement(&mut self, statement: Statement, left: Left, opening: &Opening)
         requires ready { self.old.output.is_ready ≡ true }
         requires servable { IsServable opening.now }
         ensures { Takes (RunsStatement opening.now statement left) self.old self.new }
     {
-        match bare_table(statement) {
-            Some(name) => self.run(name, left, opening),
+        match into_query(statement) {
+            Some(query) => self.run(&query, left, opening),
             None => self.reject(),
         }
     }
 
     #[tactic(auto, using(crate::proofs::QueryLaws::runs_through, crate::proofs::QueryLaws::runs_failed))]
-    fn run(&mut self, name: Name, left: Left, opening: &Opening)
+    fn run(&mut self, query: &Query, left: Left, opening: &Opening)
         requires ready { self.old.output.is_ready ≡ true }
         requires servable { IsServable opening.now }
-        ensures { Takes (Runs (Then Begins (AnswersTable opening.now name left))) self.old self.new }
+        ensures { Takes (Runs opening.now.catalog.features (Completes (AnswersQuery opening.now query.now) left)) self.old self.new }
     {
-        if let Some(why) = self.begin_and_answer(name, left, opening) {
-            self.fail(&why);
+        if let Some(why) = self.answer_and_go_on(query, left, opening) {
+            self.fail(&why, &opening.catalog.features);
         }
     }
 
-    #[tactic(auto, using(crate::proofs::QueryLaws::then_goes, crate::proofs::QueryLaws::then_stops))]
-    fn begin_and_answer(&mut self, name: Name, left: Left, opening: &Opening) -> Option<Refusal>
+    #[tactic(auto, using(crate::proofs::QueryLaws::completes, crate::proofs::QueryLaws::completes_not))]
+    fn answer_and_go_on(&mut self, query: &Query, left: Left, opening: &Opening) -> Option<Refusal>
         requires ready { self.old.output.is_ready ≡ true }
         requires servable { IsServable opening.now }
-        ensures { Done (Then Begins (AnswersTable opening.now name left)) self.old result self.new }
+        ensures { Done (Completes (AnswersQuery opening.now query.now) left) self.old result self.new }
     {
-        match self.begin() {
-            Some(why) => Some(why),
-            None => self.answer_table(name, left, opening),
+        match self.answer(query, opening) {
+            Ok(message) => self.go_past(message, left),
+            Err(why) => Some(why),
         }
     }
 
@@ -122,47 +119,47 @@ impl Session {
     /// The error rule in a Query: the error is told, the transaction is dropped, and the Query ends. The statements that
     /// are left aren't run.
     #[tactic(auto, using(crate::proofs::QueryLaws::failed))]
-    fn fail(&mut self, why: &Refusal)
+    fn fail(&mut self, why: &Refusal, features: &Features)
         requires { self.old.output.is_ready ≡ true }
-        ensures { Failed why.now self.old self.new }
+        ensures { Failed features.now why.now self.old self.new }
     {
-        self.tell_error(why);
+        self.tell_error(why, features);
         self.be_ready();
     }
 
     #[tactic(auto, using(crate::proofs::QueryLaws::told_not_utf8, crate::proofs::QueryLaws::told_out_of_memory))]
-    fn tell_error(&mut self, why: &Refusal)
+    fn tell_error(&mut self, why: &Refusal, features: &Features)
         requires { self.old.output.is_ready ≡ true }
-        ensures { Told why.now self.old self.new }
+        ensures { Told features.now why.now self.old self.new }
     {
         match why {
             Refusal::NotUtf8 => self.output.put_fixed(NOT_UTF8_AND_READY),
             Refusal::OutOfMemory => self.output.put_fixed(OUT_OF_MEMORY_AND_READY),
-            _ => self.tell_in_memory(why),
+            _ => self.tell_in_memory(why, features),
         }
     }
 
     /// Tells an error, which takes memory, or want of memory in its place.
     #[tactic(auto, using(crate::proofs::QueryLaws::told_error, crate::proofs::QueryLaws::told_memory))]
-    fn tell_in_memory(&mut self, why: &Refusal)
+    fn tell_in_memory(&mut self, why: &Refusal, features: &Features)
         requires ready { self.old.output.is_ready ≡ true }
         requires takes { is_fixed why.now ≡ false }
-        ensures { Told why.now self.old self.new }
+        ensures { Told features.now why.now self.old self.new }
     {
-        match self.put_error(why) {
+        match self.put_error(why, features) {
             Ok(()) => self.output.put_fixed(READY),
             Err(Memory) => self.output.put_fixed(OUT_OF_MEMORY_AND_READY),
         }
     }
 
-    fn put_error(&mut self, why: &Refusal) -> Result<(), Memory>
+    fn put_error(&mut self, why: &Refusal, features: &Features) -> Result<(), Memory>
         requires { self.old.output.is_ready ≡ true }
-        ensures ok { OnOk result (self.new.output.bytes ≡ self.old.output.bytes ++ spelled (error_of why.now ∷ [])) }
+        ensures ok { OnOk result (self.new.output.bytes ≡ self.old.output.bytes ++ spelled (error_of features.now why.now ∷ [])) }
         ensures err { OnErr result (self.new.output.bytes ≡ self.old.output.bytes) }
         ensures ready { self.new.output.is_ready ≡ true }
         ensures state { KeepsState self.old self.new }
     {
-        let message = error(self.alloc, why)?;
+        let message = error(self.alloc, why, features)?;
         self.output.put(&message)
     }
 
@@ -285,12 +282,12 @@ pub fn read(alloc: Global, text: &[u8], features: &Features) -> Result<List<Stat
     }
 }
 
-/// The name, where a statement's tree is that of a table's name alone.
-pub fn bare_table(statement: Statement) -> Option<Name>
-    ensures { result ≡ bare_table statement }
+/// The query, where a statement is one.
+fn into_query(statement: Statement) -> Option<Query>
+    ensures { result ≡ query_of statement }
 {
     match statement {
-        Statement::Query(query) => query.into_table(),
+        Statement::Query(query) => Some(query),
         _ => None,
     }
 }

@@ -1,12 +1,13 @@
 //! The messages that a session sends, as values.
 
-ghost use Rattle.std.specs.Prelude.{◌≡◌, ◌++◌, [], ◌∷◌, codes, decimal, IfOk};
+ghost use Rattle.std.specs.Prelude.{◌≡◌, ◌++◌, codes, decimal, IfOk};
 ghost use Rattle.pg_messages.specs.declared.back.Back.TheVariants as back;
-ghost use Rattle.session_poll.specs.Replies.{error_of, parse_error, field};
+ghost use Rattle.session_poll.specs.Replies.{error_of, error_with, parse_fault, fault, fault_at, field};
 ghost use Rattle.session_poll.specs.Replies as told;
 
 use crate::refusal::Refusal;
-use feature_expr::{List, Memory, Name, Text};
+use crate::untyped::untyped;
+use feature_expr::{Features, List, Memory, Text};
 use itoa::Buffer;
 use pg_messages::{Back, ErrorField};
 use query_parser::ParseRefused;
@@ -54,20 +55,27 @@ pub fn snapshot_told(alloc: Global, snapshot: u64) -> Result<Back, Memory>
 }
 
 /// The error of a refusal, with its SQLSTATE, of the PostgreSQL manual's appendix on error codes.
-pub fn error(alloc: Global, why: &Refusal) -> Result<Back, Memory>
-    ensures { IfOk result (λ it. it ≡ error_of why.now) }
+pub fn error(alloc: Global, why: &Refusal, features: &Features) -> Result<Back, Memory>
+    ensures { IfOk result (λ it. it ≡ error_of features.now why.now) }
 {
     match why {
         Refusal::NotBuilt => fatal(alloc, b"0A000", b"not built yet"),
         Refusal::NotUtf8 => refused(alloc, b"22021", b"text is not UTF-8"),
         Refusal::Unparsed(why) => unparsed(alloc, *why),
-        Refusal::UnknownTable(name) => unknown_table(alloc, name),
+        Refusal::Untyped(why) => untyped(alloc, why, features),
+        Refusal::TooLong(length) => numbered(
+            alloc,
+            b"54000",
+            b"reply of ",
+            *length,
+            b" bytes is too long",
+        ),
         Refusal::OutOfMemory => refused(alloc, b"53200", b"out of memory"),
     }
 }
 
 fn unparsed(alloc: Global, why: ParseRefused) -> Result<Back, Memory>
-    ensures { IfOk result (λ it. it ≡ parse_error why) }
+    ensures { IfOk result (λ it. it ≡ error_with (codes "ERROR") (parse_fault why)) }
 {
     match why {
         ParseRefused::Syntax(place) => refused_at(alloc, b"42601", b"syntax error", place),
@@ -93,25 +101,34 @@ fn unparsed(alloc: Global, why: ParseRefused) -> Result<Back, Memory>
     }
 }
 
-fn unknown_table(alloc: Global, name: &Name) -> Result<Back, Memory>
-    ensures { IfOk result (λ it. it ≡ told.error (codes "ERROR") (codes "42P01") (codes "table " ++ name.now ++ codes " is not known")) }
+/// An error in whose text a number stands.
+pub fn numbered(
+    alloc: Global,
+    code: &[u8],
+    before: &[u8],
+    number: u64,
+    after: &[u8],
+) -> Result<Back, Memory>
+    ensures { IfOk result (λ it. it ≡ error_with (codes "ERROR") (fault code.now (before.now ++ decimal number ++ after.now))) }
 {
-    let mut text = Vec::from_slice(alloc, b"table ")?;
-    text.extend_from_slice(name.as_slice())?;
-    text.extend_from_slice(b" is not known")?;
-    let message = refused(alloc, b"42P01", text.as_slice())?;
+    let mut buffer = Buffer::new();
+    let mut text = Vec::from_slice(alloc, before)?;
+    text.extend_from_slice(buffer.format(number).as_bytes())?;
+    text.extend_from_slice(after)?;
+    let message = refused(alloc, code, text.as_slice())?;
     Ok(message)
 }
 
-fn refused(alloc: Global, code: &[u8], text: &[u8]) -> Result<Back, Memory>
-    ensures { IfOk result (λ it. it ≡ told.error (codes "ERROR") code.now text.now) }
+pub fn refused(alloc: Global, code: &[u8], text: &[u8]) -> Result<Back, Memory>
+    ensures { IfOk result (λ it. it ≡ error_with (codes "ERROR") (fault code.now text.now)) }
 {
-    error_with(alloc, b"ERROR", code, text)
+    let fields = error_fields(alloc, b"ERROR", code, text)?;
+    Ok(Back::ErrorResponse(List::from_vec(fields)))
 }
 
 /// An error at a place in the text, the number of a character counted from 1.
 fn refused_at(alloc: Global, code: &[u8], text: &[u8], place: u64) -> Result<Back, Memory>
-    ensures { IfOk result (λ it. it ≡ told.error_at code.now text.now place) }
+    ensures { IfOk result (λ it. it ≡ error_with (codes "ERROR") (fault_at code.now text.now place)) }
 {
     let mut buffer = Buffer::new();
     let mut fields = error_fields(alloc, b"ERROR", code, text)?;
@@ -120,15 +137,9 @@ fn refused_at(alloc: Global, code: &[u8], text: &[u8], place: u64) -> Result<Bac
 }
 
 fn fatal(alloc: Global, code: &[u8], text: &[u8]) -> Result<Back, Memory>
-    ensures { IfOk result (λ it. it ≡ told.error (codes "FATAL") code.now text.now) }
+    ensures { IfOk result (λ it. it ≡ error_with (codes "FATAL") (fault code.now text.now)) }
 {
-    error_with(alloc, b"FATAL", code, text)
-}
-
-fn error_with(alloc: Global, severity: &[u8], code: &[u8], text: &[u8]) -> Result<Back, Memory>
-    ensures { IfOk result (λ it. it ≡ told.error severity.now code.now text.now) }
-{
-    let fields = error_fields(alloc, severity, code, text)?;
+    let fields = error_fields(alloc, b"FATAL", code, text)?;
     Ok(Back::ErrorResponse(List::from_vec(fields)))
 }
 

@@ -1,15 +1,19 @@
 //! The rows of an answer, put as bytes: no message, and no text of a cell, is made for them.
 
-ghost use Rattle.std.specs.Prelude.{◌≡◌, ◌++◌, ◌∷◌, [], ◌+◌, true, map, length, Some, OnOk, OnErr};
+ghost use Rattle.std.specs.Prelude.{◌≡◌, ◌++◌, true, map, Some, IfOk, IfSome, OnOk, OnErr};
 ghost use Rattle.std.specs.Fmt.{signed_decimal};
 ghost use Rattle.std.specs.List.{flat_map};
 ghost use Rattle.pg_messages.specs.BackSpelling.{cell_bytes};
-ghost use Rattle.session_poll.specs.AnswerMessages.{cell_text, value_text};
-ghost use Rattle.session_poll.specs.AnswerMessages as spelling;
+ghost use Rattle.pg_messages.specs.BackSpelling.{back_bytes};
+ghost use Rattle.feature_expr.specs.Printing.{text_of};
+ghost use Rattle.session_poll.specs.AnswerMessages.{cell_text, data_row, message_too_long, row_with, too_long, value_text};
+ghost use Rattle.session_poll.specs.Output.{KeepsFront};
+ghost use Rattle.session_poll.specs.Sends.{Sends};
 ghost use Rattle.session_poll.specs.Replies.{spelled};
 
 use crate::output::Output;
-use feature_expr::{Features, Memory, Value, print_expr};
+use crate::refusal::Refusal;
+use feature_expr::{Expr, Features, Memory, Text, Value, is_same_expr, print_expr};
 use itoa::Buffer;
 use std::alloc::Global;
 use vtable::VRow;
@@ -17,25 +21,66 @@ use vtable::VRow;
 /// What is told for a cell that isn't there.
 const NULL: u32 = u32::MAX;
 
-/// Puts a row, whose last cell is its condition. Its cells are made in `cells`, whatever stood there.
-#[tactic(auto, using(crate::proofs::RowLaws::row_put))]
-pub fn put_data_row(
+/// Puts rows one behind the other, up to the first that is too long or for which no memory is found.
+#[tactic(auto, using(crate::proofs::OutputLaws::begins_same, crate::proofs::OutputLaws::begins_as, crate::proofs::OutputLaws::begins_put, crate::proofs::OutputLaws::put_more, crate::proofs::LengthLaws::sends_more, crate::proofs::LengthLaws::sends_not))]
+pub fn put_rows(
     alloc: Global,
-    row: &VRow,
+    rows: &[VRow],
     features: &Features,
+    output: &mut Output,
+) -> Result<(), Refusal>
+    requires { output.old.is_ready ≡ true }
+    ensures ok { OnOk result (output.new.bytes ≡ output.old.bytes ++ spelled (map (data_row features.now) rows.now)) }
+    ensures sends { Sends (too_long (map (data_row features.now) rows.now)) result }
+    ensures begins { KeepsFront output.old.bytes output.new.bytes }
+    ensures ready { output.new.is_ready ≡ true }
+{
+    let mut cells = Vec::new(alloc);
+    let mut text = Text::from_vec(Vec::new(alloc));
+    let mut last = None;
+    'rows: for row in rows {
+        text = condition_text(alloc, &row.cond, features, last, text)?;
+        put_row(row.cells.as_slice(), text.as_slice(), &mut cells, output)?;
+        last = Some(&row.cond);
+    }
+    Ok(())
+}
+
+/// A condition's text, which may be that of the last row's.
+fn condition_text(
+    alloc: Global,
+    cond: &Expr,
+    features: &Features,
+    last: Option<&Expr>,
+    text: Text,
+) -> Result<Text, Memory>
+    requires { IfSome last (λ it. text ≡ text_of features.now it.now) }
+    ensures { IfOk result (λ it. it ≡ text_of features.now cond.now) }
+{
+    match last {
+        Some(last) if is_same_expr(last, cond) => Ok(text),
+        _ => print_expr(alloc, cond, features),
+    }
+}
+
+/// Puts a row, whose last cell is its condition. Its cells are made in `cells`, whatever stood there.
+#[tactic(auto, using(crate::proofs::RowLaws::row_put, crate::proofs::RowLaws::row_long))]
+fn put_row(
+    row: &[Option<Value>],
+    condition: &[u8],
     cells: &mut Vec<u8>,
     output: &mut Output,
-) -> Result<(), Memory>
+) -> Result<(), Refusal>
     requires { output.old.is_ready ≡ true }
-    ensures ok { OnOk result (output.new.bytes ≡ output.old.bytes ++ spelled (spelling.data_row features.now row.now ∷ [])) }
+    ensures ok { OnOk result (output.new.bytes ≡ output.old.bytes ++ back_bytes (row_with row.now condition.now)) }
     ensures err { OnErr result (output.new.bytes ≡ output.old.bytes) }
+    ensures sends { Sends (message_too_long (row_with row.now condition.now)) result }
     ensures ready { output.new.is_ready ≡ true }
 {
     cells.clear();
-    push_cells(row.cells.as_slice(), cells)?;
-    let condition = print_expr(alloc, &row.cond, features)?;
-    push_text(condition.as_slice(), cells)?;
-    output.put_row(row.cells.len().saturating_add(1), cells.as_slice())
+    push_cells(row, cells)?;
+    push_text(condition, cells)?;
+    output.put_row(row.len().saturating_add(1), cells.as_slice())
 }
 
 fn push_cells(row: &[Option<Value>], cells: &mut Vec<u8>) -> Result<(), Memory>

@@ -20,13 +20,19 @@ const STREAM: &[u8] =
 fn opening(alloc: Global) -> Result<Opening, Fail>
     ensures { IfOk result IsServable }
 {
-    let (catalog, rows) = parse_catalog(alloc, CATALOGUE)?;
+    let opening = opening_of(alloc, CATALOGUE)?;
+    Ok(opening)
+}
+
+fn opening_of(alloc: Global, catalogue: &[u8]) -> Result<Opening, Fail>
+    ensures { IfOk result IsServable }
+{
+    let (catalog, rows) = parse_catalog(alloc, catalogue)?;
     let model = check_catalog(alloc, &catalog, &rows)?;
-    Ok(Opening {
-        catalog,
-        rows,
-        model,
-    })
+    match Opening::new(alloc, catalog, rows, model) {
+        Ok(opening) => Ok(opening),
+        Err(_memory) => Err("memory")?,
+    }
 }
 
 /// What a session answers to a stream that it is fed in pieces of this size.
@@ -203,13 +209,7 @@ fn answer_to(alloc: Global, catalogue: &str, query: &str) -> Result<String, Fail
 
 /// What a session over a catalogue answers to a start-up and a Query.
 fn query_reply(alloc: Global, catalogue: &str, query: &[u8]) -> Result<Vec<u8>, Fail> {
-    let (catalog, rows) = parse_catalog(alloc, catalogue.as_bytes())?;
-    let model = check_catalog(alloc, &catalog, &rows)?;
-    let opening = Opening {
-        catalog,
-        rows,
-        model,
-    };
+    let opening = opening_of(alloc, catalogue.as_bytes())?;
     let stream = query_stream(alloc, query)?;
     reply(alloc, &opening, stream.as_slice(), 4_096)
 }
@@ -447,9 +447,13 @@ const TOLD: [(&[u8], &str); 27] = [
         b"t; \xc3(",
         "ERROR, ERROR, 22021, text is not UTF-8; ready; ",
     ),
+    // A query of another form.
+    (
+        b"t union u",
+        "vdb_snapshot, 0; id, when; 1, true; SELECT 1; ready; ",
+    ),
+    (b"empty", "vdb_snapshot, 0; when; SELECT 0; ready; "),
     // Not built yet, and no transaction begins for it.
-    (b"t union u", "FATAL, FATAL, 0A000, not built yet; "),
-    (b"empty", "FATAL, FATAL, 0A000, not built yet; "),
     (b"begin; t", "FATAL, FATAL, 0A000, not built yet; "),
     (
         b"t; set a to b; t",
@@ -494,7 +498,7 @@ fn push_texts(text: &mut String, back: &Back) -> Result<(), Fail> {
         }
         Back::DataRow(cells) => {
             for cell in cells.as_slice() {
-                push_text(text, cell.as_ref().ok_or("a cell")?)?;
+                push_cell_text(text, cell)?;
             }
         }
         Back::CommandComplete(tag) => push_text(text, tag)?,
@@ -515,8 +519,191 @@ fn push_texts(text: &mut String, back: &Back) -> Result<(), Fail> {
     Ok(())
 }
 
+fn push_cell_text(text: &mut String, cell: &Option<Text>) -> Result<(), Fail> {
+    match cell {
+        Some(cell) => push_text(text, cell),
+        None => {
+            text.push_str("-, ")?;
+            Ok(())
+        }
+    }
+}
+
 fn push_text(text: &mut String, more: &Text) -> Result<(), Fail> {
     text.push_str(str::from_utf8(more.as_slice())?)?;
     text.push_str(", ")?;
+    Ok(())
+}
+
+/// Queries over the small catalogue, and what they are answered between the snapshot and the end. Nothing simplifies a
+/// condition yet: `A and A` holds in the variants with `A`. The condition of a row says nothing of the variants in which
+/// no column is there, so the row of `dept` may stand under `true` or under `B`.
+const ASKED: [(&str, &str); 40] = [
+    // Rows by a condition, and columns by their names.
+    (
+        "select * from emp where id < 3",
+        "id, name, pay when A, when; 1, ann, 10, true; 2, bob, 20, A; SELECT 2; ",
+    ),
+    (
+        "select id from emp where name = 'cy'",
+        "id, when; 3, not A; SELECT 1; ",
+    ),
+    (
+        "select id from emp where name = 'dan'",
+        "id, when; SELECT 0; ",
+    ),
+    (
+        "select id from emp where true",
+        "id, when; 1, true; 2, A; 3, not A; SELECT 3; ",
+    ),
+    ("select id from emp where false", "id, when; SELECT 0; "),
+    (
+        "select name, id from emp where id = 1",
+        "name, id, when; ann, 1, true; SELECT 1; ",
+    ),
+    (
+        "select id as number from emp where not id = 1",
+        "number, when; 2, A; 3, not A; SELECT 2; ",
+    ),
+    (
+        "select id, title from dept where id = 7 and title = 'ops'",
+        "id when B, title when B, when; 7, ops, B and B; SELECT 1; ",
+    ),
+    (
+        "select id from emp where choice [A] (pay > 10, id = 1)",
+        "id, when; 1, not A; 2, A and (A and A); SELECT 2; ",
+    ),
+    // Items under a condition; a name that stands for two columns.
+    (
+        "select id, pay from emp where id = 1",
+        "id, pay when A, when; 1, 10, true; SELECT 1; ",
+    ),
+    (
+        "select pay from emp",
+        "pay when A, when; 10, true; 20, A; SELECT 2; ",
+    ),
+    (
+        "select pay when A from emp where id = 2",
+        "pay when A and A, when; 20, A; SELECT 1; ",
+    ),
+    (
+        "select id as x when A, name as x when not A from emp",
+        "x when A, x when not A, when; -, cy, not A; 1, ann, true; 2, -, A; SELECT 3; ",
+    ),
+    // Joins and aliases.
+    (
+        "select * from emp as e where e.id = 3",
+        "e.id, e.name, e.pay when A, when; 3, cy, -, not A; SELECT 1; ",
+    ),
+    (
+        "select e.name, d.title from emp as e join dept as d on e.id < d.id",
+        "e.name when B, d.title when B, when; ann, ops, B; bob, ops, A and B; cy, ops, not A and B; SELECT 3; ",
+    ),
+    (
+        "select e.name from emp as e join emp as f on e.id = f.id where f.name = 'ann'",
+        "e.name, when; ann, true; SELECT 1; ",
+    ),
+    (
+        "select * from (select e.id, e.name from emp as e) as p where p.id = 2",
+        "p.id, p.name, when; 2, bob, A; SELECT 1; ",
+    ),
+    (
+        "select s.id from (select id, name from emp where id > 1) as s where s.name = 'bob'",
+        "s.id, when; 2, A; SELECT 1; ",
+    ),
+    // Unions and excepts.
+    (
+        "select id from emp union select id from dept",
+        "id, when; 1, true; 2, A; 3, not A; 7, B; SELECT 4; ",
+    ),
+    (
+        "select id from emp except select id from emp where name = 'ann'",
+        "id, when; 2, A; 3, not A; SELECT 2; ",
+    ),
+    ("emp except emp", "id, name, pay when A, when; SELECT 0; "),
+    (
+        "empty union dept",
+        "id when B, title when B, when; 7, ops, B; SELECT 1; ",
+    ),
+    (
+        "dept except empty",
+        "id when B, title when B, when; 7, ops, true; SELECT 1; ",
+    ),
+    // Choices, and queries without columns.
+    (
+        "choice [A] (select id from emp, select id from dept)",
+        "id, when; 1, A; 2, A and A; 7, not A; SELECT 3; ",
+    ),
+    (
+        "choice [A or B] (select id from emp where id = 1, select id, id from emp where pay > 'x')",
+        "id, when; 1, true; SELECT 1; ",
+    ),
+    ("empty", "when; SELECT 0; "),
+    ("select * from empty", "when; SELECT 0; "),
+    ("select * from empty join emp on id = 1", "when; SELECT 0; "),
+    // A query without a type.
+    (
+        "customer",
+        "ERROR, ERROR, 42P01, table customer is not known; ",
+    ),
+    (
+        "empty union customer",
+        "ERROR, ERROR, 42P01, table customer is not known; ",
+    ),
+    (
+        "select * from emp where choice [A] (true, salary = 1)",
+        "ERROR, ERROR, 42703, column salary is not known; ",
+    ),
+    (
+        "select e.id from emp",
+        "ERROR, ERROR, 42703, column e.id is not known; ",
+    ),
+    (
+        "select * from emp where pay > 0",
+        "ERROR, ERROR, 42P10, column pay is absent in variant {B}; ",
+    ),
+    (
+        "select pay when B from emp",
+        "ERROR, ERROR, 42P10, column pay is absent in variant {B}; ",
+    ),
+    (
+        "select id as x when A, id as x when B from emp",
+        "ERROR, ERROR, 42701, column x is there twice in variant {A,B}; ",
+    ),
+    (
+        "select * from emp where choice [A] (true, id <> name)",
+        "ERROR, ERROR, 42804, kinds differ in variant {B}; ",
+    ),
+    (
+        "select id, pay from emp union select id, pay when A and not B from emp",
+        "ERROR, ERROR, 42804, columns differ in variant {A,B}; ",
+    ),
+    // Several statements, of which one fails.
+    (
+        "dept; select id from emp where id = 1",
+        "id when B, title when B, when; 7, ops, true; SELECT 1; id, when; 1, true; SELECT 1; ",
+    ),
+    (
+        "dept; select salary from emp; dept",
+        "id when B, title when B, when; 7, ops, true; SELECT 1; ERROR, ERROR, 42703, column salary is not known; ",
+    ),
+    (
+        "select id from emp where false; select * from emp where pay > 0",
+        "id, when; SELECT 0; ERROR, ERROR, 42P10, column pay is absent in variant {B}; ",
+    ),
+];
+
+#[test]
+fn queries_are_answered_in_every_variant(rt: HostRuntime) -> Result<(), Fail> {
+    for (query, answer) in ASKED {
+        let reply = query_reply(rt.alloc(), SMALL, query.as_bytes())?;
+        let messages = behind_start(rt.alloc(), reply.as_slice())?;
+        let told = texts_told(rt.alloc(), messages)?;
+        let mut wanted = String::new(rt.alloc());
+        wanted.push_str("vdb_snapshot, 0; ")?;
+        wanted.push_str(answer)?;
+        wanted.push_str("ready; ")?;
+        assert_eq!(rt; told.as_str(), wanted.as_str(), "{query}");
+    }
     Ok(())
 }

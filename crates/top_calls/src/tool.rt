@@ -14,7 +14,8 @@ use crate::exit::{CatalogueFault, Exit};
 use crate::replay::{put_all, replay};
 use crate::sink::Sink;
 use crate::source::{FileGot, Source};
-use feature_expr::List;
+use condition_sat::Model;
+use feature_expr::{List, Memory};
 use session_poll::Opening;
 use std::alloc::Global;
 use vra_types::{CheckRefused, check_catalog};
@@ -180,13 +181,28 @@ fn checked_opening(alloc: Global, catalog: Catalog, rows: List<OpeningRow>) -> R
     ensures refused { IfErr result (λ exit. IsUnpassedExit exit catalog rows) }
 {
     match check_catalog(alloc, &catalog, &rows) {
-        Ok(model) => Ok(Opening {
-            catalog,
-            rows,
-            model,
-        }),
+        Ok(model) => made_opening(alloc, catalog, rows, model),
         Err(CheckRefused::Memory) => Err(Exit::Memory),
         Err(why) => Err(Exit::Catalogue(CatalogueFault::Check(why, catalog))),
+    }
+}
+
+fn made_opening(
+    alloc: Global,
+    catalog: Catalog,
+    rows: List<OpeningRow>,
+    model: Model,
+) -> Result<Opening, Exit>
+    requires formed { IsFormed catalog rows }
+    requires passes { Passes catalog rows }
+    requires model { model ≡ catalog.model }
+    ensures opened { IfOk result (λ opening. (opening.catalog ≡ catalog) × (opening.rows ≡ rows)) }
+    ensures servable { IfOk result IsServable }
+    ensures memory { IfErr result (λ why. why ≡ exit.Memory) }
+{
+    match Opening::new(alloc, catalog, rows, model) {
+        Ok(opening) => Ok(opening),
+        Err(Memory) => Err(Exit::Memory),
     }
 }
 

@@ -1,6 +1,0 @@
-use Rattle.std.proofs.Common.{◌≡◌, ◌++◌, drop}
-use Rattle.session_poll.specs.Scans.{scanned_rows}
-use Rattle.session_poll.proofs.scan.scan_rows.Given as goal
-
-abbrev pub invariant-rows : goal.invariant-rows
-invariant-rows l = l.scanned.items ++ scanned_rows l.number (drop l.row-index l.rows) ≡ scanned_rows l.number l.rows
