@@ -1,7 +1,7 @@
 #!/bin/sh
-# Runs the built program on each example of CATALOGUE.md, ANSWERS.md, LANGUAGE.md and QUERIES.md and on the files in
-# examples/, and tries how it ends, as README.md says. It fails where one doesn't do what the page says, and skips
-# where the program isn't built or Python is missing.
+# Runs the built program on each example of the pages and of examples/, tries how it ends, as README.md says, compares it
+# with the language said a second time, and tries the demonstration's script and page. It fails where one doesn't do what
+# it should, and skips where the program isn't built or Python is missing; the page is skipped where Chromium is missing.
 set -eu
 top=$(cd "$(dirname "$0")/.." && pwd)
 program=$top/crates/vdb_server/out/vdb_server
@@ -19,4 +19,8 @@ python3 "$top/docs/run_examples.py" "$top" "$program" || status=1
 python3 -B "$top/docs/run_answers.py" "$top" "$program" || status=1
 python3 -B "$top/docs/run_language.py" "$top" "$program" || status=1
 python3 -B "$top/docs/run_queries.py" "$top" "$program" || status=1
+python3 -B "$top/docs/run_plain.py" "$top" "$program" || status=1
+python3 -B "$top/docs/run_demo.py" "$top" "$program" || status=1
+python3 -B "$top/docs/run_page.py" "$top" "$program" || status=1
+python3 -B "$top/docs/run_definitions.py" "$top" || status=1
 exit $status

@@ -1,7 +1,8 @@
-"""Tries the examples of QUERIES.md. A block `query FILE` is asked over that file of examples/, or over small.vdb, and the
-blocks behind it are what the program has to say: `answer` as it is, `variant FEATURES` as one variant reads it, `refused`
-the code and the text. Until the program takes queries it may say of each that it isn't built yet.
+"""Tries the queries of QUERIES.md, ERRORS.md and the pages of examples/. A block `query FILE` is asked over that file of
+examples/, or over small.vdb, and the blocks behind it are what the program has to say: `answer` as it is, `variant FEATURES`
+as one variant reads it, `refused` the code and the text.
 """
+import glob
 import os
 import re
 import subprocess
@@ -13,7 +14,7 @@ sys.path.insert(0, f"{TOP}/examples")
 import answers  # noqa: E402
 
 BLOCK = re.compile(r"^```(query|answer|variant|refused)(.*)\n((?:(?!```).*\n)*)```$", re.M)
-LATER = "FATAL 0A000: not built yet"
+PAGES = [f"{TOP}/docs/QUERIES.md", f"{TOP}/docs/ERRORS.md", *sorted(glob.glob(f"{TOP}/examples/*.md"))]
 
 
 def examples(page):
@@ -48,10 +49,11 @@ def shown(kind, features, answer):
     return answers.variant_lines(answer, set(features.split(",")) - {"none"})
 
 
-def main():
-    with open(f"{TOP}/docs/QUERIES.md") as file:
+def tried(path):
+    """How many blocks of a page are as they should be, and how many aren't."""
+    with open(path, encoding="utf-8") as file:
         page = file.read()
-    passed = failed = later = 0
+    passed = failed = 0
     for name, asked in examples(page).items():
         for query, blocks in asked:
             answer = replayed(name, query)
@@ -59,16 +61,19 @@ def main():
                 got = shown(kind, features, answer)
                 if got == wanted:
                     passed += 1
-                elif answer.error == LATER:
-                    later += 1
                 else:
                     failed += 1
-                    print(f"QUERIES.md, line {line}: wanted {wanted}, got {got}", file=sys.stderr)
-    blocks = len(re.findall(r"^```(?:answer|variant|refused)", page, re.M))
-    if passed + failed + later != blocks:
+                    print(f"{os.path.basename(path)}, line {line}: wanted {wanted}, got {got}", file=sys.stderr)
+    if passed + failed != len(re.findall(r"^```(?:answer|variant|refused)", page, re.M)):
         failed += 1
-        print("QUERIES.md: a block isn't tried", file=sys.stderr)
-    print(f"queries: {passed} passed, {failed} failed, {later} not built yet", file=sys.stderr)
+        print(f"{os.path.basename(path)}: a block isn't tried", file=sys.stderr)
+    return passed, failed
+
+
+def main():
+    counts = [tried(path) for path in PAGES]
+    passed, failed = (sum(each) for each in zip(*counts))
+    print(f"queries: {passed} passed, {failed} failed", file=sys.stderr)
     sys.exit(1 if failed else 0)
 
 

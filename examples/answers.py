@@ -124,9 +124,17 @@ def configured(answer, variant):
     return [name for _, name, _ in there], kinds, rows
 
 
+def cell_text(cell):
+    """A dash for an absent cell. A text that would look like one, or like a quoted text, stands in quotes."""
+    if cell is None:
+        return "-"
+    quotes = cell == "-" or cell.startswith("'")
+    return "'" + cell.replace("'", "''") + "'" if quotes else cell
+
+
 def lines_of(heads, kinds, rows):
-    """A text table: integers to the right, all else to the left, and a dash for an absent cell."""
-    table = [heads] + [["-" if cell is None else cell for cell in row] for row in rows]
+    """A text table: integers to the right, all else to the left."""
+    table = [heads] + [[cell_text(cell) for cell in row] for row in rows]
     widths = [max(map(len, column)) for column in zip(*table)]
     for row in table:
         cells = [cell.rjust(w) if kind == "int8" else cell.ljust(w) for cell, w, kind in zip(row, widths, kinds)]

@@ -1,4 +1,4 @@
-"""Asks the program for tables of a catalogue and shows the answers. `./demo` at the top of the repository calls it."""
+"""Asks the program queries over a catalogue and shows the answers. `./demo` at the top of the repository calls it."""
 import os
 import shutil
 import subprocess
@@ -6,36 +6,86 @@ import sys
 import tempfile
 
 import answers
+import catalogue_help
+import page
+import quick_build
 
 TOP = os.path.dirname(os.path.dirname(os.path.abspath(__file__)))
-CRATE = os.path.join(TOP, "crates", "vdb_server")
-PROGRAM = os.path.join(CRATE, "out", "vdb_server")
-EMAIL = os.path.relpath(os.path.join(TOP, "examples", "email.vdb")), ["account", "message", "trail", "calendar"]
+PROGRAM = os.path.join(TOP, "crates", "vdb_server", "out", "vdb_server")
+USAGE = """usage:
+  ./demo                                   asks some questions of two product lines in examples/
+  ./demo FILE QUERY..                      asks queries over a catalogue; a table's name is one
+  ./demo --variant A,B FILE QUERY..        shows what the variant with these features sees; `none` has none
+  ./demo --page OUT.html FILE QUERY        writes a page on which the features can be switched
+  ./demo check FILE                        says whether a catalogue can be used, or what is wrong with it"""
+
+EMAIL = "examples/email.vdb", "An e-mail client in many variants", [
+    ("What is an account?", "account"),
+    ("Which messages lie in which folder? A client without filters has no folders.",
+     "select m.subject, f.title from message as m join folder as f on m.folder = f.id"),
+    ("What was done to a message? Each feature leaves a trail of its own.", "trail"),
+    ("A query that some variant can't answer is refused, and the variant is shown.",
+     "select subject from message where folder = 1"),
+    ("A choice guards it.", "select subject from message where choice [filters] (folder = 1, true)"),
+]
+PAYROLL = "examples/payroll.vdb", "A payroll over five releases, whose tables changed with each", [
+    ("Who has which title? The tables were split and joined again; the answer is the same in every release.",
+     "select emp_no, title from engineer union select emp_no, title from other_staff union select emp_no, title from staff"),
+    ("Whose pay does a later release tell otherwise than an earlier one, and since when? One question over all releases"
+     " at once: with a database for each release it would be five, and a comparison.",
+     "choice [r5] (select emp_no, salary from staff,"
+     " select s.emp_no as emp_no, j.salary as salary from staff as s join job as j on s.title = j.title)"),
+]
 
 
-def command():
-    """What runs the program: the proved build, or else a quick one that proves nothing."""
+def program():
+    """The proved build, or else a quick one that proves nothing."""
     if os.access(PROGRAM, os.X_OK):
-        print("The proved build answers, crates/vdb_server/out/vdb_server.")
-        return [PROGRAM]
-    if shutil.which("rt"):
-        print("There is no proved build yet, so `rt try` makes one that isn't proved. It takes about a minute.")
-        return ["rt", "try", "--"]
-    sys.exit("demo: crates/vdb_server/out/vdb_server isn't built, and the toolchain's `rt` isn't there to build it")
+        return PROGRAM
+    if not shutil.which("rt"):
+        sys.exit("demo: crates/vdb_server/out/vdb_server isn't built, and the toolchain's `rt` isn't there to build it")
+    return quick_build.program(TOP)
 
 
-def replayed(catalogue, tables):
-    """What the program answers to a client that asks for these tables."""
-    run = command()
-    sys.stdout.flush()
+def existing(name):
+    if not os.path.isfile(name):
+        sys.exit(f"demo: there is no file {name}")
+    return os.path.abspath(name)
+
+
+def run(words):
+    return subprocess.run([program(), *words], stdin=subprocess.DEVNULL, capture_output=True, check=False)
+
+
+def text_of(name):
+    with open(name, "rb") as file:
+        return file.read().decode(errors="replace")
+
+
+def refused(name, said):
+    """Shows why a catalogue is refused."""
+    line = said.decode(errors="replace").rstrip("\n")
+    print("\n".join([line] + catalogue_help.explained(line, text_of(name))), file=sys.stderr)
+
+
+def check(name):
+    ran = run(["check", existing(name)])
+    if ran.returncode:
+        refused(name, ran.stderr)
+    else:
+        sys.stdout.write(ran.stdout.decode())
+    return ran.returncode
+
+
+def replayed(catalogue, queries):
+    """What the program answers to a client that asks these queries: parameters, and an answer for each query."""
     with tempfile.TemporaryDirectory() as folder:
         stream = os.path.join(folder, "stream.bin")
         with open(stream, "wb") as out:
-            out.write(answers.stream(f"{table};" for table in tables))
-        words = ["replay", os.path.abspath(catalogue), stream]
-        ran = subprocess.run(run + words, cwd=CRATE, stdin=subprocess.DEVNULL, capture_output=True)
+            out.write(answers.stream(query.rstrip().rstrip(";") + ";" for query in queries))
+        ran = run(["replay", existing(catalogue), stream])
     if ran.returncode:
-        sys.stderr.buffer.write(ran.stderr)
+        refused(catalogue, ran.stderr)
         sys.exit(ran.returncode)
     return answers.read_reply(ran.stdout)
 
@@ -46,16 +96,55 @@ def show(title, lines):
         print(f"    {line}".rstrip())
 
 
-def main():
-    catalogue, tables = (sys.argv[1], sys.argv[2:]) if len(sys.argv) > 2 else EMAIL
-    if len(sys.argv) == 2:
-        sys.exit("usage: ./demo [CATALOGUE TABLE..]")
-    parameters, answered = replayed(catalogue, tables)
-    show(f"The session over {catalogue} begins with", answers.parameter_lines(parameters))
-    for table, answer in zip(tables, answered):
-        show(f"{table};", answers.answer_lines(answer))
-    for table in tables[len(answered):]:
-        show(f"{table};", ["not asked: the session had ended"])
+def ask(catalogue, queries, variant=None):
+    """Shows the answers to queries, whole or as a variant reads them."""
+    parameters, answered = replayed(catalogue, queries)
+    if variant is not None:
+        known_variant(dict(parameters), variant)
+    for query, answer in zip(queries, answered):
+        whole = variant is None or answer.error
+        show(query, answers.answer_lines(answer) if whole else answers.variant_lines(answer, variant))
+    for query in queries[len(answered):]:
+        show(query, ["not asked: the session had ended"])
 
 
-main()
+def known_variant(parameters, variant):
+    """Ends where the features aren't those of a variant."""
+    names = [name for name in parameters["vdb_features"].split(",") if name]
+    for name in variant:
+        if name not in names:
+            sys.exit(f"demo: {name} is none of the features {', '.join(names)}")
+    if not answers.holds(parameters["vdb_model"], variant):
+        sys.exit(f"demo: no variant has just these features: the model is {parameters['vdb_model']}")
+
+
+def tour():
+    for name, title, questions in EMAIL, PAYROLL:
+        catalogue = os.path.join(TOP, name)
+        parameters, answered = replayed(catalogue, [query for _, query in questions])
+        print(f"\n== {title}: {name}")
+        show("The session begins with", answers.parameter_lines(parameters))
+        for (question, query), answer in zip(questions, answered):
+            show(f"{question}\n  {query}", answers.answer_lines(answer))
+    print("\nNow yours: ./demo check FILE, ./demo FILE 'QUERY', ./demo --variant A,B FILE 'QUERY'")
+
+
+def main(words):
+    match words:
+        case []:
+            tour()
+        case ["check", name]:
+            sys.exit(check(name))
+        case ["--variant", features, catalogue, *queries] if queries:
+            ask(catalogue, queries, set(features.split(",")) - {"none", ""})
+        case ["--page", out, catalogue, query]:
+            parameters, answered = replayed(catalogue, [query])
+            page.write(out, catalogue, query, dict(parameters), answered[0])
+            print(f"{out} is written: open it in a browser")
+        case [catalogue, *queries] if queries and not catalogue.startswith("-"):
+            ask(catalogue, queries)
+        case _:
+            sys.exit(USAGE)
+
+
+main(sys.argv[1:])
