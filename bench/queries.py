@@ -27,7 +27,7 @@ QUERIES = {
     "half of 10,000": "select * from item where id < 5000",
     "three columns of half": "select id, name, size from item where id < 5000",
     "union of two tables of 10,000": "item union other",
-    "except of two tables of 10,000": "item except other",
+    "except of two tables of 1,000": "small except short",
     "join of 1,000 and 1,000 on a key": "select s.id, s.name, t.note from small as s join short as t on s.id = t.id",
     "union of 100 selects over one row each": " union ".join(f"select id, name from small where id = {i}" for i in range(100)),
 }
