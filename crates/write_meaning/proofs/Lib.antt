@@ -1,0 +1,9 @@
+pub mod BoundLaws
+pub mod FormedLaws
+pub mod KindLaws
+pub mod MentionLaws
+pub mod RelationLaws
+pub mod RowWriteLaws
+pub mod SameLaws
+pub mod SetLaws
+pub mod TakenLaws
