@@ -1,0 +1,7 @@
+pub mod ConflictLaws
+pub mod HoldingLaws
+pub mod LogLaws
+pub mod NewestLaws
+pub mod OpeningLaws
+pub mod SeenLaws
+pub mod StepLaws
