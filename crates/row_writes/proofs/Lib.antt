@@ -1,0 +1,6 @@
+pub mod CostLaws
+pub mod FateLaws
+pub mod InsertLaws
+pub mod NameLaws
+pub mod TouchLaws
+pub mod WrittenLaws
