@@ -6,17 +6,17 @@ top=$(cd "$(dirname "$0")/.." && pwd)
 work=$(mktemp -d)
 trap 'rm -rf "$work"' EXIT
 mkdir -p "$work/crates/speed/src" "$work/crates/speed/specs"
-for crate in feature_expr pg_messages; do
+for crate in values pg_messages; do
   mkdir "$work/crates/$crate"
   cp -r "$top/crates/$crate/src" "$top/crates/$crate/specs" "$top/crates/$crate/proofs" "$work/crates/$crate/"
 done
-grep -E '^(feature_expr|pg_messages):' "$top/crates.txt" > "$work/crates.txt"
-echo 'speed: feature_expr pg_messages' >> "$work/crates.txt"
+grep -E '^(values|pg_messages):' "$top/crates.txt" > "$work/crates.txt"
+echo 'speed: pg_messages values' >> "$work/crates.txt"
 : > "$work/crates/speed/specs/Lib.antt"
 cat > "$work/crates/speed/src/main.rt" <<'PROGRAM'
 #![tactic(auto)]
 
-use feature_expr::{List, Memory, Text};
+use values::{List, Memory, Text};
 use pg_messages::{Back, Decoded, decode_back, encode_back};
 use std::alloc::Global;
 use std::io;

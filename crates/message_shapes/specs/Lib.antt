@@ -1,0 +1,4 @@
+pub mod Fields
+pub mod Shapes
+pub mod Spelling
+pub mod Walks
