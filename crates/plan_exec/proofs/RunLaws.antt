@@ -17,20 +17,22 @@ use Rattle.query_meaning.specs.Plans.{not_asked, plan_possible, plan_possible_st
 use Rattle.query_meaning.specs.declared.plan.Plan.{Plan, fold-Plan, map-Plan, roll-Plan}
 use Rattle.query_meaning.specs.declared.plan.Plan.TheFolds.{fold-roll-Plan, ind-Plan}
 use Rattle.query_meaning.specs.declared.plan.Plan.TheOpen.{Plan-F}
-use Rattle.plan_exec.proofs.AliasLaws.{alias_answers, alias_columns, alias_formed, alias_headings}
-use Rattle.plan_exec.proofs.ChoiceLaws.{headings_under, left_answers, left_formed, right_answers, right_formed, to_is}
-use Rattle.plan_exec.proofs.ExceptLaws.{except_answers, except_formed}
-use Rattle.plan_exec.proofs.FilterLaws.{filter_answers, filter_formed}
-use Rattle.plan_exec.proofs.JoinLaws.{join_answers, join_formed, wide_at}
-use Rattle.plan_exec.proofs.KeepLaws.{kept_none, items_columns, items_headings, keep_answers, keep_formed}
-use Rattle.plan_exec.proofs.StandLaws.{columns_at-append}
-use Rattle.plan_exec.proofs.SettleLaws.{settled_at, settled_headings, settled_once}
-use Rattle.plan_exec.proofs.UnionLaws.{union_answers, union_formed}
-use Rattle.plan_exec.specs.Merges.{aliased_column, aliased_table, columns_of_item, joined_table, kept_table}
+use Rattle.plan_merges.proofs.AliasLaws.{alias_answers, alias_columns, alias_formed, alias_headings}
+use Rattle.plan_tables.proofs.SettleLaws.{headings_under, settled_at, settled_headings, settled_once}
+use Rattle.plan_operators.proofs.ChoiceLaws.{left_answers, left_formed, right_answers, right_formed, to_is}
+use Rattle.plan_operators.proofs.ExceptLaws.{except_answers, except_formed}
+use Rattle.plan_operators.proofs.FilterLaws.{filter_answers, filter_formed}
+use Rattle.plan_merges.proofs.JoinLaws.{join_answers, join_formed, wide_at}
+use Rattle.plan_merges.proofs.KeepLaws.{kept_none, items_columns, items_headings, keep_answers, keep_formed}
+use Rattle.plan_tables.proofs.StandLaws.{columns_at-append}
+use Rattle.plan_operators.proofs.UnionLaws.{union_answers, union_formed}
+use Rattle.plan_merges.specs.Merges.{aliased_column, aliased_table, columns_of_item, joined_table, kept_table}
 use Rattle.plan_exec.specs.RunTables.{empty_table, run_step, run_table, table_by}
-use Rattle.plan_exec.specs.Runs.{CanRun, IsStored, database_of, heading, relation_by, rows_of, rows_source, source_by}
-use Rattle.plan_exec.specs.Tables.{any_of, chosen_table, columns_at, columns_under, excepted_table, filtered_table, headings, once_each, united_table}
-use Rattle.plan_exec.specs.declared.rows.TableRows.{TableRows}
+use Rattle.plan_exec.specs.Runs.{CanRun}
+use Rattle.plan_tables.specs.StoredRows.{IsStored, database_of, relation_by, rows_of, rows_source, source_by}
+use Rattle.plan_tables.specs.Tables.{heading, any_of, columns_at, columns_under, headings, once_each}
+use Rattle.plan_operators.specs.Operators.{chosen_table, excepted_table, filtered_table, united_table}
+use Rattle.plan_tables.specs.declared.rows.TableRows.{TableRows}
 use Rattle.std.proofs.lemmas.List.{map-append}
 use Rattle.feature_expr.specs.Expressions.{not_of}
 use Rattle.vra_syntax.specs.declared.cond.Cond.{Cond}

@@ -10,16 +10,17 @@ use Rattle.query_meaning.specs.declared.plan.Plan.{Plan, fold-Plan, map-Plan, ro
 use Rattle.query_meaning.specs.declared.plan.Plan.TheFolds.{fold-roll-Plan, ind-Plan}
 use Rattle.query_meaning.specs.declared.plan.Plan.TheOpen.{Plan-F}
 use Rattle.relational_algebra.specs.Items.{possible_kept}
-use Rattle.plan_exec.proofs.GivenLaws.{alias_sized, join_sized, keep_sized}
+use Rattle.plan_merges.proofs.GivenLaws.{alias_sized, join_sized, keep_sized}
 use Rattle.plan_exec.proofs.FeatureLaws.{run_known}
 use Rattle.plan_exec.proofs.RunLaws.{StoredBy, alias_possible, all_stored, both_possible, chosen_possible, join_possible, kept_possible, once_as, run_answered, run_possible, same_itself}
-use Rattle.plan_exec.proofs.SettleLaws.{settled_headings, settled_once}
-use Rattle.plan_exec.proofs.SizeLaws.{choice_sized, except_sized, filter_sized, union_sized}
-use Rattle.plan_exec.specs.Merges.{aliased_column, items_table, kept_table, pairs_table}
+use Rattle.plan_tables.proofs.SettleLaws.{settled_headings, settled_once}
+use Rattle.plan_operators.proofs.SizeLaws.{choice_sized, except_sized, filter_sized, union_sized}
+use Rattle.plan_merges.specs.Merges.{aliased_column, items_table, kept_table, pairs_table}
 use Rattle.plan_exec.specs.RunTables.{run_step, run_table, table_by}
-use Rattle.plan_exec.specs.Runs.{CanRun, IsRunOf, IsStored, rows_of, rows_size, rows_source, size_by, size_of, source_by}
-use Rattle.plan_exec.specs.Tables.{columns_under, headings, once_each}
-use Rattle.plan_exec.specs.declared.rows.TableRows.{TableRows}
+use Rattle.plan_exec.specs.Runs.{CanRun, IsRunOf}
+use Rattle.plan_tables.specs.StoredRows.{IsStored, rows_of, rows_size, rows_source, size_by, size_of, source_by}
+use Rattle.plan_tables.specs.Tables.{columns_under, headings, once_each}
+use Rattle.plan_tables.specs.declared.rows.TableRows.{TableRows}
 use Rattle.vra_syntax.specs.declared.cond.Cond.{Cond}
 use Rattle.vra_syntax.specs.declared.items.Items.{Items}
 use Rattle.vra_syntax.specs.declared.items.Items.TheVariants.{All, Listed}

@@ -5,9 +5,9 @@ use Rattle.query_meaning.specs.declared.plan.Plan as plan
 use Rattle.query_meaning.specs.declared.plan.Plan.TheFolds.{fold-roll-Plan}
 use Rattle.query_meaning.specs.declared.plan.Plan.TheOpen.{Plan-F}
 use denote.Hole.Carrier
-use Rattle.plan_exec.specs.Merges.{joined_table}
+use Rattle.plan_merges.specs.Merges.{joined_table}
 use Rattle.plan_exec.specs.RunTables.{rewrapped_table, run_step, run_table, wrapped_table}
-use Rattle.plan_exec.specs.declared.rows.TableRows.{TableRows}
+use Rattle.plan_tables.specs.declared.rows.TableRows.{TableRows}
 use Rattle.vra_syntax.specs.declared.cond.Cond.{Cond}
 use Rattle.plan_exec.specs.declared.plan_run.PlanStep.{PlanStep}
 use Rattle.vtable.specs.declared.table.VTable.{VTable}

@@ -1,9 +1,9 @@
 -- The table that a plan makes of the tables handed in, in all variants at once.
 use Rattle.std.specs.Prelude.{List, [], ◌∷◌, Option, Some, None}
-use Rattle.plan_exec.specs.Merges.{aliased_table, joined_table, kept_table}
-use Rattle.plan_exec.specs.Runs.{rows_of}
-use Rattle.plan_exec.specs.Tables.{chosen_table, excepted_table, filtered_table, united_table}
-use Rattle.plan_exec.specs.declared.rows.TableRows.{TableRows}
+use Rattle.plan_merges.specs.Merges.{aliased_table, joined_table, kept_table}
+use Rattle.plan_tables.specs.StoredRows.{rows_of}
+use Rattle.plan_operators.specs.Operators.{chosen_table, excepted_table, filtered_table, united_table}
+use Rattle.plan_tables.specs.declared.rows.TableRows.{TableRows}
 use Rattle.plan_exec.specs.declared.plan_run.PlanStep.{PlanStep}
 use Rattle.plan_exec.specs.declared.plan_run.PlanStep.TheVariants as pstep
 use Rattle.query_meaning.specs.declared.plan.Plan.{Plan, fold-Plan}

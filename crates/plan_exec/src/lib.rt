@@ -4,22 +4,9 @@
 //! The path of a type's file is part of this crate's interface: a specification above names it.
 #![tactic(auto)]
 
-mod alias;
-mod choice;
-mod except;
-mod filter;
-mod join;
-mod keep;
-mod lay;
-mod merge;
-mod place;
 mod plan_run;
-mod rows;
 mod scan;
-mod settle;
-mod union;
-mod way;
 
 pub use plan_run::run;
-pub use rows::{Rows, TableRows};
+pub use plan_tables::{Rows, TableRows};
 pub use scan::scanned;

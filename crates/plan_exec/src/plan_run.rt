@@ -1,18 +1,14 @@
 ghost use Rattle.std.specs.Prelude.{◌≡◌, ◌≤◌, IfOk, OnOk};
-ghost use Rattle.plan_exec.specs.Runs.{CanRun, IsRunOf, rows_of};
-ghost use Rattle.plan_exec.specs.Tables.{filtered_table};
+ghost use Rattle.plan_exec.specs.Runs.{CanRun, IsRunOf};
+ghost use Rattle.plan_tables.specs.StoredRows.{rows_of};
+ghost use Rattle.plan_operators.specs.Operators.{filtered_table};
 ghost use Rattle.plan_exec.specs.RunTables.{rewrapped_table, run_table, table_by, wrapped_table};
 
-use crate::alias::aliased;
-use crate::choice::chosen;
-use crate::except::excepted;
-use crate::filter::filtered;
-use crate::join::joined;
-use crate::keep::kept;
-use crate::rows::{Rows, TableRows};
-use crate::union::united;
 use condition_sat::Model;
 use feature_expr::Expr;
+use plan_merges::{aliased, joined, kept};
+use plan_operators::{chosen, excepted, filtered, united};
+use plan_tables::{Rows, TableRows};
 use query_meaning::{Plan, bound_laws};
 use std::alloc::Global;
 use std::sync::ledger::Ledger;
@@ -157,10 +153,10 @@ fn wrap<L: Ledger>(
         PlanStep::Filter(cond) => filtered(alloc, cond, &table),
         PlanStep::Keep(items) => kept(alloc, items, table),
         PlanStep::Join(right, cond) => joined(alloc, cond, &table, &right, steps),
-        PlanStep::Union(right) => united(alloc, &table, &right),
+        PlanStep::Union(right) => united(alloc, table, right),
         PlanStep::Except(right) => excepted(alloc, &table, &right),
         PlanStep::Rename(alias) => aliased(alloc, alias, table),
-        PlanStep::Choose(expr, right) => chosen(alloc, expr, &table, &right),
+        PlanStep::Choose(expr, right) => chosen(alloc, expr, table, right),
     }
 }
 

@@ -1,6 +1,6 @@
 use Rattle.std.proofs.Common.{◌≡◌, length}
 use Rattle.plan_exec.specs.RunTables.{table_by}
-use Rattle.plan_exec.specs.Runs.{rows_of}
+use Rattle.plan_tables.specs.StoredRows.{rows_of}
 use Rattle.plan_exec.proofs.plan_run.copied_table.Given as goal
 
 abbrev pub decreases-loop-table : goal.decreases-loop-table

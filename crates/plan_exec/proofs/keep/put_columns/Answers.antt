@@ -1,5 +1,0 @@
-use Rattle.plan_exec.proofs.LoopLaws.{kept_behind}
-use Rattle.plan_exec.proofs.keep.put_columns.Goals as goal
-
-pub loop-column-preserved : goal.loop-column-preserved
-loop-column-preserved c = kept_behind _ _ _ _ _ _ _ c.loop-column-test.true c.column-item.is c.loop-column.invariant c.in_ok-put_column.ensures

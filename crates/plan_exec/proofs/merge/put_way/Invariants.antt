@@ -1,6 +1,0 @@
-use Rattle.std.proofs.Common.{◌≡◌, ◌++◌, take}
-use Rattle.plan_exec.specs.Merges.{rows_by_slots}
-use Rattle.plan_exec.proofs.merge.put_way.Given as goal
-
-abbrev pub invariant-loop-row : goal.invariant-loop-row
-invariant-loop-row l = l.out.items ≡ l.fn.out.items ++ rows_by_slots l.to l.columns (take l.row-index l.rows) l.way

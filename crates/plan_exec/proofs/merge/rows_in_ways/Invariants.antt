@@ -1,7 +1,0 @@
-use Rattle.std.proofs.Common.{◌≡◌, take}
-use Rattle.std.specs.List.{flat_map}
-use Rattle.plan_exec.specs.Merges.{rows_by_slots}
-use Rattle.plan_exec.proofs.merge.rows_in_ways.Given as goal
-
-abbrev pub invariant-loop-way : goal.invariant-loop-way
-invariant-loop-way l = l.out.items ≡ flat_map (rows_by_slots l.to l.columns l.rows) (take l.way-index l.ways)

@@ -1,7 +1,0 @@
-use Rattle.std.proofs.Common.{◌≡◌, take}
-use Rattle.plan_exec.specs.Merges.{taken_slots}
-use Rattle.plan_exec.specs.Tables.{laid_cells}
-use Rattle.plan_exec.proofs.merge.taken_cells.Given as goal
-
-abbrev pub invariant-loop-column : goal.invariant-loop-column
-invariant-loop-column l = l.out.items ≡ laid_cells (take l.column-index l.to) (taken_slots l.ranks l.columns l.cells)

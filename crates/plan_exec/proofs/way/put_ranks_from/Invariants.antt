@@ -1,6 +1,0 @@
-use Rattle.std.proofs.Common.{◌≡◌, ◌++◌}
-use Rattle.plan_exec.specs.Merges.{ways_ranked}
-use Rattle.plan_exec.proofs.way.put_ranks_from.Given as goal
-
-abbrev pub invariant-loop-rank : goal.invariant-loop-rank
-invariant-loop-rank l = l.out.items ≡ l.fn.out.items ++ ways_ranked l.name l.columns l.rank l.ways

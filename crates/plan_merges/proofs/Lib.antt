@@ -1,0 +1,14 @@
+pub mod CodeLaws
+pub mod RankLaws
+pub mod TakenLaws
+pub mod MergeLaws
+pub mod WayLaws
+pub mod WideLaws
+pub mod KeepLaws
+pub mod AliasLaws
+pub mod JoinLaws
+pub mod FeatureLaws
+pub mod WayWeights
+pub mod CountLaws
+pub mod PairLaws
+pub mod GivenLaws

@@ -1,0 +1,19 @@
+-- A row of which the condition is nowhere true.
+use Rattle.std.proofs.Common.{◌≡◌, ◌∙◌, ◌++◌, append-nil, Bool, true, List, Option, sym, ap}
+use Rattle.std.specs.Option.{option_to_list}
+use Rattle.feature_expr.specs.declared.expr.Expr.{Expr}
+use Rattle.values.specs.declared.value.Value.{Value}
+use Rattle.row_conditions.specs.Truths.{slots_of, truth_of}
+use Rattle.vra_syntax.specs.declared.cond.Cond.{Cond}
+use Rattle.vtable.specs.declared.table.VColumn.{VColumn}
+use Rattle.vtable.specs.declared.table.VRow.{VRow}
+use Rattle.plan_operators.specs.Operators.{row_meeting}
+use Rattle.plan_tables.specs.Tables.{is_false}
+use Rattle.plan_tables.proofs.CodeLaws.{nowhere}
+
+-- a row of which the condition is nowhere true
+pub row_nowhere : (cond : Cond) (columns : List VColumn) (row : VRow) (out : List VRow) (truth : Expr) (xs : List (Option Value)) (b : Bool) → truth ≡ truth_of (slots_of columns xs) cond → xs ≡ row.cells → b ≡ is_false truth → b ≡ true → out ≡ out ++ option_to_list (row_meeting cond columns row)
+row_nowhere cond columns row out truth xs b is x found h =
+    let same : truth ≡ truth_of (slots_of columns row.cells) cond = is ∙ ap (λ cells. truth_of (slots_of columns cells) cond) x in
+    let none : is_false (truth_of (slots_of columns row.cells) cond) ≡ true = ap is_false (sym same) ∙ sym found ∙ h in
+    sym (ap (λ zs. out ++ zs) (nowhere row.cells row.cond (truth_of (slots_of columns row.cells) cond) none) ∙ append-nil out)

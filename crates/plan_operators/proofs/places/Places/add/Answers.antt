@@ -1,0 +1,10 @@
+use Rattle.std.proofs.Common.{ap, sym, ◌∙◌}
+use Rattle.plan_operators.proofs.PlaceLaws.{added_under}
+use Rattle.plan_operators.specs.Operators.{places_under}
+use Rattle.plan_operators.proofs.places.Places.add.Goals as goal
+
+pub returns : goal.returns
+returns c = λ key.
+    added_under c.args.cells key c.self.inside.by_cells c.insert.new.self c.push.new.self c.args.place c.take-places.result.items c.args.self.now
+    c.in_ok-insert.ensures.updates c.in_ok-push.ensures.items c.take-places.ensures.taken
+    (ap (places_under key.items) c.self.view_is ∙ c.take-places.ensures.left key)

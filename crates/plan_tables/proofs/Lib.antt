@@ -1,0 +1,11 @@
+pub mod LoopLaws
+pub mod MemberLaws
+pub mod StandLaws
+pub mod LayLaws
+pub mod OnceLaws
+pub mod SettleLaws
+pub mod SameLaws
+pub mod RowLaws
+pub mod CodeLaws
+pub mod FeatureLaws
+pub mod WeightLaws
