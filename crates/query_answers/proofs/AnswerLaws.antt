@@ -9,11 +9,12 @@ use Rattle.condition_sat.specs.Admitted.{IsAdmitted}
 use Rattle.feature_expr.specs.declared.expr.Expr.{Expr}
 use Rattle.values.specs.declared.value.Kind.{Kind}
 use Rattle.plain_relation.specs.Relations.{Column, Relation, SameRelation, columns_of, relation_of}
-use Rattle.plan_exec.proofs.MemberLaws.{column_is, column_same}
-use Rattle.plan_exec.specs.Runs.{CanRun, IsRunOf, IsStored, database_of, heading, rows_of, rows_size, rows_source, source_by}
-use Rattle.plan_exec.specs.Runs as runs
-use Rattle.plan_exec.specs.Tables.{headings}
-use Rattle.plan_exec.specs.declared.rows.TableRows.{TableRows}
+use Rattle.plan_tables.proofs.MemberLaws.{column_is, column_same}
+use Rattle.plan_exec.specs.Runs.{CanRun, IsRunOf}
+use Rattle.plan_tables.specs.StoredRows.{IsStored, database_of, rows_of, rows_size, rows_source, source_by}
+use Rattle.plan_tables.specs.Tables.{heading, headings}
+use Rattle.plan_tables.specs.StoredRows as stored_rows
+use Rattle.plan_tables.specs.declared.rows.TableRows.{TableRows}
 use Rattle.query_meaning.proofs.ColumnSets.{column_decides, distinct, distinct_from_once, once_distinct}
 use Rattle.query_meaning.specs.Bounds.{IsWithin, plan_size, query_size}
 use Rattle.query_meaning.specs.Meaning.{HasColumns, meaning, plan_meaning}
@@ -156,11 +157,11 @@ module _ (columns_law : (c : List ℕ) (kinds : List Kind) (tables : List Table)
   within : IsWithin (plan_size (rows_source rows) (rows_size rows) p) (query_size tables (rows_size rows) query)
   within = subst (λ (sources : ℕ → Source). IsWithin (plan_size sources (rows_size rows) p) (query_size tables (rows_size rows) query)) (sym (same_sources tables rows holds)) (typed.plan.bounds (rows_size rows))
 
-  known : (feature : ℕ) → rows_mention feature ran.rows ≡ true → (query_mentions feature query || tables_mention feature tables || runs.tables_mention feature rows) ≡ true
+  known : (feature : ℕ) → rows_mention feature ran.rows ≡ true → (query_mentions feature query || tables_mention feature tables || stored_rows.tables_mention feature rows) ≡ true
   known feature h =
       let plans : plan_mentions feature p ≡ query_mentions feature query = ap (plan_mentions feature) typed.plan.shape ∙ same_mentions feature tables query in
-      widened (query_mentions feature query) (tables_mention feature tables) (runs.tables_mention feature rows)
-      (ap (λ b. b || runs.tables_mention feature rows) (sym plans) ∙ is.features feature (or_end (list_any (runs.column_mentions feature) ran.columns) (rows_mention feature ran.rows) h))
+      widened (query_mentions feature query) (tables_mention feature tables) (stored_rows.tables_mention feature rows)
+      (ap (λ b. b || stored_rows.tables_mention feature rows) (sym plans) ∙ is.features feature (or_end (list_any (stored_rows.column_mentions feature) ran.columns) (rows_mention feature ran.rows) h))
 
   pub answers : (after : VTable) → IsNormalOf model new after → IsAnswerTo model tables (database_of rows) (rows_size rows) (held_mention rows) query columns after
   answers after normal = record {

@@ -4,7 +4,7 @@ use Rattle.feature_expr.specs.declared.expr.Expr.{Expr}
 use Rattle.values.specs.declared.value.Kind.{Kind}
 use Rattle.plain_relation.specs.Relations.{Relation}
 use Rattle.plan_exec.specs.Runs.{CanRun, IsRunOf}
-use Rattle.plan_exec.specs.declared.rows.TableRows.{TableRows}
+use Rattle.plan_tables.specs.declared.rows.TableRows.{TableRows}
 use Rattle.query_meaning.specs.Bounds.{IsWithin, Size, query_size}
 use Rattle.query_meaning.specs.Meaning.{HasColumns, meaning}
 use Rattle.query_meaning.specs.PlainTypes.{cases_of, columns_in, plain_type}

@@ -5,4 +5,5 @@ pub mod PlanLaws
 pub mod RetypeLaws
 pub mod RunLaws
 pub mod ScanLaws
+pub mod SimplerLaws
 pub mod SourceLaws

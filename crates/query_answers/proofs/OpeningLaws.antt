@@ -10,9 +10,9 @@ use Rattle.feature_expr.specs.Expressions.{mentions, weight_of}
 use Rattle.feature_expr.specs.declared.expr.Expr.{Expr}
 use Rattle.values.specs.declared.value.Kind.{Kind}
 use Rattle.plain_relation.specs.Relations.{Relation}
-use Rattle.plan_exec.specs.Runs.{IsStored, are_distinct, database_of, relation_by, rows_of, rows_size, size_by, size_of, table_numbers}
-use Rattle.plan_exec.specs.Runs as runs
-use Rattle.plan_exec.specs.declared.rows.TableRows.{TableRows}
+use Rattle.plan_tables.specs.StoredRows.{IsStored, are_distinct, database_of, relation_by, rows_of, rows_size, size_by, size_of, table_numbers}
+use Rattle.plan_tables.specs.StoredRows as stored_rows
+use Rattle.plan_tables.specs.declared.rows.TableRows.{TableRows}
 use Rattle.query_meaning.specs.Bounds.{IsWithin, Size, column_weight_in, query_size}
 use Rattle.query_meaning.specs.Plans.{has_number}
 use Rattle.query_meaning.specs.Typing.{IsTyped, table_mentions, tables_mention}
@@ -140,9 +140,9 @@ opening_within tables rows number =
 -- ---- their features
 
 module _ (feature : ℕ) where
-  columns_known : (table : Table) (columns : List catalog.Column) → list_any (runs.column_mentions feature) (map (held_column table) columns) ≡ true → (mentions feature table.cond || list_any (λ (column : catalog.Column). mentions feature column.cond) columns) ≡ true
+  columns_known : (table : Table) (columns : List catalog.Column) → list_any (stored_rows.column_mentions feature) (map (held_column table) columns) ≡ true → (mentions feature table.cond || list_any (λ (column : catalog.Column). mentions feature column.cond) columns) ≡ true
   columns_known table [] h = absurd (true≢false (sym h))
-  columns_known table (k ∷ ks) h = elim (or_cases (mentions feature (held_column table k).cond) (list_any (runs.column_mentions feature) (map (held_column table) ks)) h) [
+  columns_known table (k ∷ ks) h = elim (or_cases (mentions feature (held_column table k).cond) (list_any (stored_rows.column_mentions feature) (map (held_column table) ks)) h) [
     | inl first ↦ shifted (mentions feature table.cond) (mentions feature k.cond) (list_any (λ (column : catalog.Column). mentions feature column.cond) ks) (and_mentions feature table.cond k.cond first)
     | inr rest ↦ skipped (mentions feature table.cond) (mentions feature k.cond) (list_any (λ (column : catalog.Column). mentions feature column.cond) ks) (columns_known table ks rest)
   ]
@@ -157,21 +157,21 @@ module _ (feature : ℕ) where
       skipped false true d is = refl
       skipped false false d is = is
 
-  row_step : (number : ℕ) (row : OpeningRow) (rows : List OpeningRow) (of : Bool) → is_of number row ≡ of → (list_any (runs.row_mentions feature) (scanned_rows number rows) ≡ true → openings_mention rows feature ≡ true) → list_any (runs.row_mentions feature) (scanned_rows number (row ∷ rows)) ≡ true → openings_mention (row ∷ rows) feature ≡ true
+  row_step : (number : ℕ) (row : OpeningRow) (rows : List OpeningRow) (of : Bool) → is_of number row ≡ of → (list_any (stored_rows.row_mentions feature) (scanned_rows number rows) ≡ true → openings_mention rows feature ≡ true) → list_any (stored_rows.row_mentions feature) (scanned_rows number (row ∷ rows)) ≡ true → openings_mention (row ∷ rows) feature ≡ true
   row_step number row rows false is rest h = or_end (mentions feature row.cond) _ (rest (rw is at h))
-  row_step number row rows true is rest h = elim (or_cases (mentions feature row.cond) (list_any (runs.row_mentions feature) (scanned_rows number rows)) (rw is at h)) [
+  row_step number row rows true is rest h = elim (or_cases (mentions feature row.cond) (list_any (stored_rows.row_mentions feature) (scanned_rows number rows)) (rw is at h)) [
     | inl first ↦ or_start (mentions feature row.cond) _ first
     | inr later ↦ or_end (mentions feature row.cond) _ (rest later)
   ]
 
-  rows_known : (number : ℕ) (rows : List OpeningRow) → list_any (runs.row_mentions feature) (scanned_rows number rows) ≡ true → openings_mention rows feature ≡ true
+  rows_known : (number : ℕ) (rows : List OpeningRow) → list_any (stored_rows.row_mentions feature) (scanned_rows number rows) ≡ true → openings_mention rows feature ≡ true
   rows_known number [] h = absurd (true≢false (sym h))
   rows_known number (row ∷ rows) h = row_step number row rows (is_of number row) refl (rows_known number rows) h
 
-  known_from : (k : ℕ) (tables : List Table) (rows : List OpeningRow) → runs.tables_mention feature (opening_from k tables rows) ≡ true → (tables_mention feature tables || openings_mention rows feature) ≡ true
+  known_from : (k : ℕ) (tables : List Table) (rows : List OpeningRow) → stored_rows.tables_mention feature (opening_from k tables rows) ≡ true → (tables_mention feature tables || openings_mention rows feature) ≡ true
   known_from k [] rows h = absurd (true≢false (sym h))
-  known_from k (table ∷ tables) rows h = elim (or_cases (runs.table_mentions feature (scanned k table rows)) (runs.tables_mention feature (opening_from (suc k) tables rows)) h) [
-    | inl first ↦ elim (or_cases (list_any (runs.column_mentions feature) (map (held_column table) table.columns)) (list_any (runs.row_mentions feature) (scanned_rows k rows)) first) [
+  known_from k (table ∷ tables) rows h = elim (or_cases (stored_rows.table_mentions feature (scanned k table rows)) (stored_rows.tables_mention feature (opening_from (suc k) tables rows)) h) [
+    | inl first ↦ elim (or_cases (list_any (stored_rows.column_mentions feature) (map (held_column table) table.columns)) (list_any (stored_rows.row_mentions feature) (scanned_rows k rows)) first) [
       | inl columns ↦ begins (table_mentions feature table) (tables_mention feature tables) (openings_mention rows feature) (columns_known table table.columns columns)
       | inr there ↦ or_end (table_mentions feature table || tables_mention feature tables) (openings_mention rows feature) (rows_known k rows there)
     ]
@@ -208,7 +208,7 @@ module _ (grows : (tables : List Table) (sizes others : ℕ → Size) (query : Q
         right = it.right;
         rows = omega (arith, most, count);
         row_conditions = omega (arith, heaviest, count, weight);
-        known = λ feature h. known_wider (query_mentions feature query) (tables_mention feature c.tables) (runs.tables_mention feature (opening_tables c.tables opening)) (openings_mention opening feature) (it.known feature h) (known_from feature 0 c.tables opening);
+        known = λ feature h. known_wider (query_mentions feature query) (tables_mention feature c.tables) (stored_rows.tables_mention feature (opening_tables c.tables opening)) (openings_mention opening feature) (it.known feature h) (known_from feature 0 c.tables opening);
       } in
       record { is = subst (λ (database : List ℕ → ℕ → Relation). IsAnswerTo c.model c.tables database (opening_sizes c.tables opening) (openings_mention opening) query columns answer) (fun_ext (λ at. same_database c opening at)) wider }
 

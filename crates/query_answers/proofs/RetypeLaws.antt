@@ -12,9 +12,8 @@ use Rattle.feature_expr.specs.declared.expr.Expr.{Expr}
 use Rattle.values.specs.declared.column_name.ColName.{ColName}
 use Rattle.values.specs.declared.value.Kind.{Kind}
 use Rattle.plain_relation.specs.Relations.{Column}
-use Rattle.plan_exec.proofs.MemberLaws.{among_kept, column_is, column_same}
-use Rattle.plan_exec.specs.Runs.{heading}
-use Rattle.plan_exec.specs.Tables.{columns_at, headings}
+use Rattle.plan_tables.proofs.MemberLaws.{among_kept, column_is, column_same}
+use Rattle.plan_tables.specs.Tables.{heading, columns_at, headings}
 use Rattle.query_meaning.proofs.ColumnSets.{distinct, distinct_parts, order_cons}
 use Rattle.query_meaning.specs.Typing.{IsSettled}
 use Rattle.query_meaning.specs.Typing as typing

@@ -5,8 +5,9 @@ use Rattle.std.specs.List.{AllByRecursion, list_all}
 use Rattle.std.proofs.lemmas.Bool.{eqb-true}
 use Rattle.feature_expr.specs.declared.expr.Expr.{Expr}
 use Rattle.values.specs.declared.value.Kind.{Kind}
-use Rattle.plan_exec.specs.Runs.{CanRun, IsStored, rows_of, table_numbers}
-use Rattle.plan_exec.specs.declared.rows.TableRows.{TableRows}
+use Rattle.plan_exec.specs.Runs.{CanRun}
+use Rattle.plan_tables.specs.StoredRows.{IsStored, rows_of, table_numbers}
+use Rattle.plan_tables.specs.declared.rows.TableRows.{TableRows}
 use Rattle.query_meaning.specs.Plans.{IsSound, has_number, param_in_plan, plan_of, scans}
 use Rattle.query_meaning.specs.Sources.{Source}
 use Rattle.query_meaning.specs.Typing.{IsTyped}

@@ -17,7 +17,7 @@ use Rattle.values.specs.declared.value.Value.{Value}
 use Rattle.plain_relation.specs.Relations.{relation_of, columns_of, has_name}
 use Rattle.plain_relation.specs.Values.{same_kind}
 use Rattle.plain_relation.specs.Relations as plain
-use Rattle.plan_exec.specs.Runs.{IsStored}
+use Rattle.plan_tables.specs.StoredRows.{IsStored}
 use Rattle.row_conditions.proofs.FoldingLaws.{and_holds}
 use Rattle.vschema.specs.declared.catalog.Catalog.{Catalog}
 use Rattle.vschema.specs.declared.catalog.Column.{Column}

@@ -4,8 +4,9 @@ use Rattle.std.proofs.Math.Path.{fun_ext}
 use Rattle.std.specs.Prelude.{option_map, slice_get}
 use Rattle.plain_relation.specs.Relations.{Column, Relation, columns_of, relation_with}
 use Rattle.plain_relation.specs.Relations as plain
-use Rattle.plan_exec.specs.Runs.{database_of, heading, relation_by, rows_of, rows_source, source_by}
-use Rattle.plan_exec.specs.declared.rows.TableRows.{TableRows}
+use Rattle.plan_tables.specs.StoredRows.{database_of, relation_by, rows_of, rows_source, source_by}
+use Rattle.plan_tables.specs.Tables.{heading}
+use Rattle.plan_tables.specs.declared.rows.TableRows.{TableRows}
 use Rattle.query_meaning.specs.Meaning.{HasColumns}
 use Rattle.query_meaning.specs.Sources.{Source, catalog_source, source_of, table_column, table_source}
 use Rattle.vschema.specs.declared.catalog.Column as catalog

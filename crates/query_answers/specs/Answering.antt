@@ -9,8 +9,9 @@ use Rattle.vschema.specs.declared.catalog.Table.{Table}
 use Rattle.vtable.specs.declared.table.VTable.{VTable}
 use Rattle.query_meaning.specs.Typing.{IsTyped}
 use Rattle.query_names.specs.declared.typed.Typed.{Typed}
-use Rattle.plan_exec.specs.Runs.{CanRun, database_of, rows_size}
-use Rattle.plan_exec.specs.declared.rows.TableRows.{TableRows}
+use Rattle.plan_exec.specs.Runs.{CanRun}
+use Rattle.plan_tables.specs.StoredRows.{database_of, rows_size}
+use Rattle.plan_tables.specs.declared.rows.TableRows.{TableRows}
 use Rattle.query_answers.specs.Answers.{IsAnswerTo}
 use Rattle.query_answers.specs.Held.{HoldsTables, held_mention}
 use Rattle.query_answers.specs.Openings.{IsOpeningAnswer, opening_tables}

@@ -1,7 +1,7 @@
 -- When rows at hand are those of a catalogue's tables.
 use Rattle.std.specs.Prelude.{ℕ, ◌≡◌, Bool, true, List, map, option_map, slice_get}
-use Rattle.plan_exec.specs.Runs.{are_distinct, rows_of, table_numbers, tables_mention}
-use Rattle.plan_exec.specs.declared.rows.TableRows.{TableRows}
+use Rattle.plan_tables.specs.StoredRows.{are_distinct, rows_of, table_numbers, tables_mention}
+use Rattle.plan_tables.specs.declared.rows.TableRows.{TableRows}
 use Rattle.query_meaning.specs.Typing.{stored_column}
 use Rattle.query_meaning.specs.declared.typed.TypedColumn.{TypedColumn}
 use Rattle.vschema.specs.declared.catalog.Column as catalog

@@ -4,3 +4,4 @@ pub mod Held
 pub mod Openings
 pub mod Retyped
 pub mod Scans
+pub mod SimplerRows

@@ -10,7 +10,7 @@ use Rattle.vschema.specs.declared.catalog.Table.{Table}
 use Rattle.vtable.specs.declared.table.VTable.{VTable}
 use Rattle.query_meaning.specs.Bounds.{Size, no_size, table_column_weight}
 use Rattle.query_meaning.specs.declared.typed.TypedColumn.{TypedColumn}
-use Rattle.plan_exec.specs.declared.rows.TableRows.{TableRows}
+use Rattle.plan_tables.specs.declared.rows.TableRows.{TableRows}
 use Rattle.query_answers.specs.Answers.{IsAnswerTo}
 use Rattle.query_answers.specs.Scans.{is_of, scanned}
 

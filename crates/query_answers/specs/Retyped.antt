@@ -1,6 +1,6 @@
 -- The columns of a table under the conditions that typing found for them.
 use Rattle.std.specs.Prelude.{◌≡◌, List, [], ◌∷◌, ◌++◌, if◌then◌else◌}
-use Rattle.plan_exec.specs.Runs.{heading}
+use Rattle.plan_tables.specs.Tables.{heading}
 use Rattle.query_meaning.specs.Typing as typing
 use Rattle.query_meaning.specs.declared.typed.TypedColumn.{TypedColumn}
 use Rattle.relational_algebra.specs.Columns.{same_column}

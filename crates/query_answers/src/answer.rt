@@ -4,6 +4,7 @@ ghost use Rattle.std.specs.Prelude.{IfOk};
 ghost use Rattle.query_answers.specs.Answering.{CanAnswer, IsAnswerFrom};
 
 use crate::retype::retyped;
+use crate::simpler::simpler_rows;
 use condition_sat::Model;
 use plan_exec::{Rows, run};
 use query_meaning::{bound_laws, column_laws, query_laws};
@@ -14,7 +15,8 @@ use steps::Steps;
 use values::Memory;
 use vtable::{OutTable, VTable, normal};
 
-/// The answer in all variants at once, in table form, with the columns that typing chose.
+/// The answer in all variants at once, in table form, with the columns that typing chose. The rows are
+/// brought into table form under simplified conditions, which several that are merged there aren't together.
 pub fn answer_query<L: Ledger>(
     alloc: Global,
     model: &Model,
@@ -32,6 +34,7 @@ pub fn answer_query<L: Ledger>(
         columns: possible,
         rows,
     } = run(alloc, typed.plan(), model, rows, steps)?;
+    let rows = simpler_rows(alloc, rows)?;
     let columns = retyped(alloc, possible.as_slice(), typed.columns().as_slice())?;
     let answer = normal(alloc, model, VTable { columns, rows })?;
     Ok(answer)

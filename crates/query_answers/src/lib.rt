@@ -7,6 +7,7 @@ mod answer;
 mod opening;
 mod retype;
 mod scan;
+mod simpler;
 
 pub use answer::answer_query;
 pub use opening::opening_rows;

@@ -4,7 +4,7 @@ ghost use Rattle.std.specs.Prelude.{◌≡◌, ◌<◌, ◌^◌, ◌++◌, lengt
 ghost use Rattle.query_answers.specs.Openings.{opening_from, opening_tables};
 
 use crate::scan::scan;
-use plan_exec::{Rows, TableRows};
+use plan_tables::{Rows, TableRows};
 use std::alloc::Global;
 use values::{List, Memory};
 use vschema::{Catalog, OpeningRow};

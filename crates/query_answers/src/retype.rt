@@ -1,7 +1,7 @@
 //! The conditions that typing found, for the columns of a table.
 
 ghost use Rattle.std.specs.Prelude.{◌≡◌, IfOk};
-ghost use Rattle.plan_exec.specs.Runs.{heading};
+ghost use Rattle.plan_tables.specs.Tables.{heading};
 ghost use Rattle.query_answers.specs.Retyped.{PutsRetyped, retyped};
 ghost use Rattle.query_meaning.specs.Typing as typing;
 ghost use Rattle.relational_algebra.specs.Columns.{same_column};

@@ -11,6 +11,7 @@ mod LeafBounds
 mod LeafLaws
 mod PlanLaws
 mod SideLaws
+mod SimplerLaws
 mod StepLaws
 mod WaitingLaws
 mod WalkLaws
