@@ -162,7 +162,7 @@ impl Writing<'_> {
         }
     }
 
-    fn put_parameter(&mut self, kind: Kind) -> Result<(), Memory> {
+    pub fn put_parameter(&mut self, kind: Kind) -> Result<(), Memory> {
         match kind {
             Kind::Int => self.put("$1"),
             Kind::Text => self.put("$2"),
