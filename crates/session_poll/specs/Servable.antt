@@ -7,8 +7,7 @@ use Rattle.vschema.specs.Formed.{IsFormed}
 use Rattle.vschema.specs.Gaps.{have_all_values}
 
 -- A catalogue and its opening rows are formed, and in each admitted variant each row that is there has a value in each
--- column that is there. The model is the catalogue's, and the stored
--- rows are the opening rows.
+-- column that is there. The model is the catalogue's, and the stored rows are the opening rows.
 pub record IsServable (opening : Opening) : Type 0 where
   pub model : opening.model ≡ opening.catalog.model
   pub formed : IsFormed opening.catalog opening.rows

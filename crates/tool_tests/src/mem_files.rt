@@ -1,6 +1,7 @@
-ghost use Rattle.std.specs.Prelude.{◌≡◌, ◌↔◌, Some, Contains, IfSome, IsTrue, map};
+ghost use Rattle.std.specs.Prelude.{◌≡◌, ◌↔◌, ◌&&◌, true, false, Some, Contains, IfSome, IfNone, IsTrue, map};
+ghost use Rattle.std.specs.Str.{bytes_eq};
 ghost use Rattle.top_calls.specs.Sources.{Files, Reads, CountsRead, Lasts};
-ghost use Rattle.tool_tests.specs.MemFiles.{file_of, files_of, PutsContent};
+ghost use Rattle.tool_tests.specs.MemFiles.{file_of, files_of, is_there, none_fails, PutsContent};
 
 use feature_expr::{List, Text};
 use top_calls::{FileGot, Source};
@@ -24,7 +25,9 @@ pub struct MemFiles {
 impl MemFiles {
     /// The calls with the numbers in `failing`, counted from 0, fail.
     pub fn new(files: List<MemFile>, failing: List<u64>) -> MemFiles
-        ensures { files_of result ≡ record { contents = Some (map file_of files); faults = 0 } }
+        ensures contents { (files_of result).contents ≡ Some (map file_of files) }
+        ensures faults { (files_of result).faults ≡ 0 }
+        ensures sure { (files_of result).is_sure ≡ λ name. none_fails failing && is_there files name }
     {
         MemFiles {
             files,
@@ -39,7 +42,7 @@ impl Source for MemFiles {
     ghost files = { files_of };
 
     fn read_file(&mut self, name: &str, max: u64, into: &mut Vec<u8>) -> FileGot {
-        let is_failing = self.failing.as_slice().contains(&self.calls);
+        let is_failing = is_to_fail(self.failing.as_slice(), self.calls);
         self.calls = self.calls.saturating_add(1);
         match content_of(self.files.as_slice(), name.as_bytes()) {
             Some(content) if !is_failing => put_content(content, max, into),
@@ -51,9 +54,16 @@ impl Source for MemFiles {
     }
 }
 
+fn is_to_fail(failing: &[u64], call: u64) -> bool
+    ensures { result ≡ true → none_fails failing.now ≡ false }
+{
+    failing.contains(&call)
+}
+
 /// The content of the first file with this name.
 fn content_of<'a>(files: &'a [MemFile], name: &[u8]) -> Option<&'a [u8]>
-    ensures { IfSome result (λ content. Contains (map file_of files.now) (name.now, content.now)) }
+    ensures content { IfSome result (λ content. Contains (map file_of files.now) (name.now, content.now)) }
+    ensures none { IfNone result (is_there files.now name.now ≡ false) }
 {
     for file in files {
         if is_named(file, name) {
@@ -64,7 +74,8 @@ fn content_of<'a>(files: &'a [MemFile], name: &[u8]) -> Option<&'a [u8]>
 }
 
 fn is_named(file: &MemFile, name: &[u8]) -> bool
-    ensures { IsTrue result ↔ (file.now.name ≡ name.now) }
+    ensures same { IsTrue result ↔ (file.now.name ≡ name.now) }
+    ensures is { result ≡ bytes_eq file.now.name name.now }
 {
     file.name.as_slice() == name
 }

@@ -41,6 +41,9 @@ impl Sink for MemSink {
     fn put(&mut self, piece: &[u8]) -> SinkPut {
         let is_failing = self.failing.as_slice().contains(&self.calls);
         self.calls = self.calls.saturating_add(1);
+        if piece.is_empty() {
+            return SinkPut::Took(0);
+        }
         if !is_failing && self.bytes.extend_from_slice(piece).is_ok() {
             SinkPut::Took(piece.len())
         } else {

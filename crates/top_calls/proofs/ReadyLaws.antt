@@ -1,5 +1,5 @@
 -- A catalogue that passes its check is refused for no cause.
-use Rattle.std.proofs.Common.{◌≡◌, ◌≢◌, ℕ, List, inl, inr, arith}
+use Rattle.std.proofs.Common.{◌≡◌, ◌≢◌, ℕ, List, inl, inr, sym, subst, arith}
 use Rattle.causes.specs.Faults.{Rose}
 use Rattle.vra_types.specs.declared.refused.CheckRefused.{CheckRefused}
 use Rattle.vra_types.specs.declared.refused.CheckRefused.TheVariants as unpassed
@@ -55,7 +55,12 @@ still old new was is (inr last) = omega (arith, was, is, last)
 -- counts that are 0 before and after haven't risen
 pub no_fault_counted : (before after : Files) (catalogue stream : List ℕ) (out out' : Held) → HoldsPassing before catalogue stream → before.faults ≡ 0 → after.faults ≡ 0 → out.faults ≡ 0 → out'.faults ≡ 0 → IsReady before after catalogue stream out out'
 no_fault_counted before after catalogue stream out out' holds files files' sink sink' = record {
-  read = still before.faults after.faults files files';
+  read = inr (still before.faults after.faults files files');
   written = still out.faults out'.faults sink sink';
   holds = holds;
 }
+
+-- the same of two names by which they are called
+pub no_fault_named : (before after : Files) (catalogue stream name other : List ℕ) (out out' : Held) → name ≡ catalogue → other ≡ stream → IsReady before after catalogue stream out out' → HasNoFault before after name other out out'
+no_fault_named before after catalogue stream name other out out' is is' ready =
+    subst (λ n. HasNoFault before after n other out out') (sym is) (subst (λ s. HasNoFault before after catalogue s out out') (sym is') (no_fault before after catalogue stream out out' ready))

@@ -1,5 +1,5 @@
 -- How a check of a catalogue ends, and what a catalogue is that passed it.
-use Rattle.std.specs.Prelude.{◌≡◌, ℕ, ◌≤◌, List, length}
+use Rattle.std.specs.Prelude.{◌≡◌, ◌⊎◌, ℕ, ◌≤◌, List, length}
 use Rattle.std.specs.Io.KnownBytes.{Appends}
 use Rattle.causes.specs.Faults.{Rose}
 use Rattle.causes.specs.Told.{IsContent}
@@ -13,7 +13,7 @@ use Rattle.top_calls.specs.CheckLines.{passed_line}
 use Rattle.top_calls.specs.Exits.{IsRefusedFile}
 use Rattle.top_calls.specs.Replays.{PutsFront}
 use Rattle.top_calls.specs.Sinks.{Held}
-use Rattle.top_calls.specs.Sources.{Files, IsLong, file_limit}
+use Rattle.top_calls.specs.Sources.{AreSure, Files, IsLong, MayFail, file_limit}
 use Rattle.top_calls.specs.declared.exit.CatalogueFault.TheVariants as fault
 use Rattle.top_calls.specs.declared.exit.Exit.{Exit}
 use Rattle.top_calls.specs.declared.exit.Exit.TheVariants as exit
@@ -45,9 +45,9 @@ pub record HoldsPassing (files : Files) (catalogue stream : List ℕ) : Type 0 w
   pub short_stream : IsLong files.contents stream file_limit → ⊥
   pub passing : (bytes : List ℕ) → IsContent files.contents catalogue bytes → ArePassing bytes
 
--- Nothing stands in the way of a command: no count of faults rises, and the files are such.
+-- Nothing stands in the way of a command: the reads are sure, or no count of faults rises, and the files are such.
 pub record IsReady (before after : Files) (catalogue stream : List ℕ) (out out' : Held) : Type 0 where
-  pub read : Rose before.faults after.faults → ⊥
+  pub read : AreSure before catalogue stream ⊎ (Rose before.faults after.faults → ⊥)
   pub written : Rose out.faults out'.faults → ⊥
   pub holds : HoldsPassing before catalogue stream
 
@@ -82,7 +82,7 @@ IsToldExit files name other before after = after ≡ before
 abbrev pub IsCheckExit : Files → List ℕ → Exit → Files → Held → Held → Type 0
 IsCheckExit before name exit.Done after out out' = IsTold before name out out'
 IsCheckExit before name (exit.Catalogue why) after out out' = IsRefusedFile before name why × (out' ≡ out)
-IsCheckExit before name exit.ReadFault after out out' = Rose before.faults after.faults × (out' ≡ out)
+IsCheckExit before name exit.ReadFault after out out' = Rose before.faults after.faults × MayFail before name × (out' ≡ out)
 IsCheckExit before name exit.WriteFault after out out' = Rose out.faults out'.faults × IsToldInPart before name out out'
 IsCheckExit before name exit.TooLong after out out' = IsLong before.contents name file_limit × (out' ≡ out)
 IsCheckExit before name exit.Memory after out out' = out' ≡ out

@@ -14,7 +14,7 @@ use Rattle.vra_types.specs.declared.refused.CheckRefused.{CheckRefused}
 use Rattle.vra_types.specs.declared.refused.CheckRefused.TheVariants as unpassed
 use Rattle.top_calls.specs.CheckLines.{check_line_of}
 use Rattle.top_calls.specs.Sinks.{Held}
-use Rattle.top_calls.specs.Sources.{Files, IsLong, file_limit}
+use Rattle.top_calls.specs.Sources.{AreSure, Files, IsLong, MayFail, file_limit}
 use Rattle.top_calls.specs.declared.exit.CatalogueFault.{CatalogueFault}
 use Rattle.top_calls.specs.declared.exit.CatalogueFault.TheVariants as fault
 use Rattle.top_calls.specs.declared.exit.Exit.{Exit}
@@ -118,7 +118,7 @@ IfCatalogue _ shown = Unit {0}
 
 -- the exits of a read of a file, with their causes
 abbrev pub IsReadExit : Files → List ℕ → Exit → Files → Type 0
-IsReadExit before name exit.ReadFault after = Rose before.faults after.faults
+IsReadExit before name exit.ReadFault after = Rose before.faults after.faults × MayFail before name
 IsReadExit before name exit.TooLong after = IsLong before.contents name file_limit
 IsReadExit before name exit.Memory after = Unit {0}
 IsReadExit before name _ after = ⊥
@@ -128,10 +128,10 @@ abbrev pub IsOpeningExit : Files → List ℕ → Exit → Files → Type 0
 IsOpeningExit before name (exit.Catalogue why) after = IsRefusedFile before name why
 IsOpeningExit before name other after = IsReadExit before name other after
 
--- No cause of a fault holds: no count of faults rises, the files are within the limit, and the catalogue is refused for
--- no cause. Over files whose contents aren't told nobody can know that.
+-- No cause of a fault holds: the reads are sure, or no count of faults rises, the files are within the limit, and the
+-- catalogue is refused for no cause. Over files whose contents aren't told nobody can know that.
 pub record HasNoFault (before after : Files) (catalogue stream : List ℕ) (out out' : Held) : Type 0 where
-  pub read : Rose before.faults after.faults → ⊥
+  pub read : AreSure before catalogue stream ⊎ (Rose before.faults after.faults → ⊥)
   pub written : Rose out.faults out'.faults → ⊥
   pub short_catalogue : IsLong before.contents catalogue file_limit → ⊥
   pub short_stream : IsLong before.contents stream file_limit → ⊥

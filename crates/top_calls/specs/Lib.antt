@@ -2,6 +2,7 @@ pub mod CheckLines
 pub mod Checks
 pub mod Exits
 pub mod OpenedFiles
+pub mod Passed
 pub mod Replayed
 pub mod Replays
 pub mod Sinks

@@ -1,5 +1,5 @@
 -- What a replay of a file over a catalogue has put out.
-use Rattle.std.specs.Prelude.{◌≡◌, ℕ, ◌⊎◌, List}
+use Rattle.std.specs.Prelude.{◌≡◌, ℕ, ◌≤◌, ◌⊎◌, List, length}
 use Rattle.causes.specs.Faults.{Rose}
 use Rattle.causes.specs.Told.{IsContent}
 use Rattle.session_poll.specs.declared.opening.Opening.{Opening}
@@ -7,7 +7,7 @@ use Rattle.top_calls.specs.Checks.{IsChecked, IsCheckedFile}
 use Rattle.top_calls.specs.Exits.{IsReadable, IsRefusedFile}
 use Rattle.top_calls.specs.Replays.{Replays, IsWhole}
 use Rattle.top_calls.specs.Sinks.{Held}
-use Rattle.top_calls.specs.Sources.{Files, IsLong, file_limit}
+use Rattle.top_calls.specs.Sources.{Files, IsLong, MayFail, file_limit}
 use Rattle.top_calls.specs.declared.exit.Exit.{Exit}
 use Rattle.top_calls.specs.declared.exit.Exit.TheVariants as exit
 
@@ -18,6 +18,7 @@ pub record IsReplayed (files : Files) (catalogue stream : List ℕ) (before afte
   pub checked : IsCheckedFile files catalogue opening.catalog opening.rows
   pub bytes : List ℕ
   pub content : IsContent files.contents stream bytes
+  pub within : length bytes ≤ file_limit
   pub replays : Replays opening bytes before.bytes after.bytes
 
 -- The same, and what was put out is the whole reply.
@@ -37,7 +38,8 @@ IsReplayedExit files catalogue stream other before after = after ≡ before
 abbrev pub IsRunExit : Files → List ℕ → List ℕ → Exit → Files → Held → Held → Type 0
 IsRunExit before catalogue stream exit.Done after out out' = IsReadable before catalogue × IsReadable before stream
 IsRunExit before catalogue stream (exit.Catalogue why) after out out' = IsRefusedFile before catalogue why × (out' ≡ out)
-IsRunExit before catalogue stream exit.ReadFault after out out' = Rose before.faults after.faults × (out' ≡ out)
+IsRunExit before catalogue stream exit.ReadFault after out out' =
+    Rose before.faults after.faults × (MayFail before catalogue ⊎ (IsChecked before catalogue × MayFail before stream)) × (out' ≡ out)
 IsRunExit before catalogue stream exit.WriteFault after out out' = Rose out.faults out'.faults
 IsRunExit before catalogue stream exit.TooLong after out out' =
     (IsLong before.contents catalogue file_limit ⊎ (IsChecked before catalogue × IsLong before.contents stream file_limit)) × (out' ≡ out)

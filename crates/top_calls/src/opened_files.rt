@@ -1,4 +1,4 @@
-ghost use Rattle.std.specs.Prelude.{◌≡◌, ◌≤◌, length, IfSome, IfNone};
+ghost use Rattle.std.specs.Prelude.{◌≡◌, ◌≤◌, false, length, IfSome, IfNone};
 ghost use Rattle.causes.specs.Faults.{Rose};
 ghost use Rattle.top_calls.specs.Sources.{Files, Reads, CountsRead, Lasts};
 ghost use Rattle.top_calls.specs.OpenedFiles.{Fills, ReadsPiece};
@@ -27,7 +27,7 @@ impl<O> OpenedFiles<O> {
 }
 
 impl<O: Opener> Source for OpenedFiles<O> {
-    ghost files = { λ it. record { contents = O.contents it.opener; faults = it.faults } };
+    ghost files = { λ it. record { contents = O.contents it.opener; faults = it.faults; is_sure = λ _. false } };
 
     #[tactic(auto, using(crate::proofs::FillLaws::opened))]
     fn read_file(&mut self, name: &str, max: u64, into: &mut Vec<u8>) -> FileGot {

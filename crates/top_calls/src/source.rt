@@ -11,8 +11,8 @@ pub enum FileGot {
     Memory,
 }
 
-/// Where files come from. It means their contents, where they are told, and a count of faults that rises at each failed
-/// read.
+/// Where files come from. It means their contents, where they are told, a count of faults that rises at each failed
+/// read, and of which names a read can never fail.
 pub trait Source {
     ghost files: { Self → Files };
 

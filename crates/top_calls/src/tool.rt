@@ -1,8 +1,8 @@
 ghost use Rattle.std.specs.Prelude.{◌≡◌, ◌≤◌, ◌↔◌, ◌⊎◌, ◌||◌, true, false, map, length, string_bytes, is_some, OnOk, IfSome, IfOk, IfErr};
 ghost use Rattle.causes.specs.Told.{IsContent};
-ghost use Rattle.top_calls.specs.Sources.{IsLong, Lasts, file_limit};
+ghost use Rattle.top_calls.specs.Sources.{IsLong, Lasts, MayFail, file_limit};
 ghost use Rattle.top_calls.specs.Exits.{is_replay, is_check, catalogue_name, stream_name, IsReadable, IsRefusedFile, IfCatalogue, IfUnopened, IsReadExit, IsOpeningExit, HasNoFault, IsToolExit, CountsReads, CountsWrites};
-ghost use Rattle.vra_types.specs.Check.{Passes};
+ghost use Rattle.top_calls.specs.Passed.{HasPassed};
 ghost use Rattle.top_calls.specs.Checks.{IsChecked, IsCheckedFile, IsReady, IsToldExit, IsCheckExit, IsUnpassedExit};
 ghost use Rattle.session_poll.specs.Servable.{IsServable};
 ghost use Rattle.vschema.specs.Formed.{IsFormed};
@@ -57,6 +57,10 @@ pub fn run_tool<F: Source, O: Sink>(
     // A count of faults rises at the fault that the exit tells, and else stays as it was.
     ensures reads { CountsReads result (F.files files.old).faults (F.files files.new).faults }
     ensures writes { CountsWrites result (O.held out.old).faults (O.held out.new).faults }
+    // A read fault is that of a file that is asked for; the second is read once the first has passed its check.
+    ensures unread { result ≡ exit.ReadFault
+        → MayFail (F.files files.old) (catalogue_name (map string_bytes words.now))
+        ⊎ (is_replay (map string_bytes words.now) ≡ true) × IsChecked (F.files files.old) (catalogue_name (map string_bytes words.now)) × MayFail (F.files files.old) (stream_name (map string_bytes words.now)) }
     // The second file's length counts once the first is a catalogue that passes its check.
     ensures long { result ≡ exit.TooLong
         → IsLong (F.files files.old).contents (catalogue_name (map string_bytes words.now)) file_limit
@@ -101,6 +105,14 @@ fn check_name(words: &[String]) -> Option<&str>
     }
 }
 
+/// A catalogue that passes its check, its opening rows and its feature model.
+#[derive(Drop)]
+struct Passed {
+    catalog: Catalog,
+    rows: List<OpeningRow>,
+    model: Model,
+}
+
 /// Says on the sink what a catalogue has that passes its check.
 #[tactic(auto, using(crate::proofs::CompleteLaws::opening_completes, crate::proofs::CheckLaws::not_told, crate::proofs::CountLaws::counts))]
 fn run_check<F: Source, O: Sink>(alloc: Global, catalogue: &str, files: &mut F, out: &mut O) -> Exit
@@ -113,11 +125,11 @@ fn run_check<F: Source, O: Sink>(alloc: Global, catalogue: &str, files: &mut F, 
     ensures lasts { Lasts (F.files files.old) (F.files files.new) }
     ensures later { (O.held out.old).faults ≤ (O.held out.new).faults }
 {
-    let opening = match read_opening(alloc, catalogue, files) {
-        Ok(opening) => opening,
+    let passed = match read_catalogue(alloc, catalogue, files) {
+        Ok(passed) => passed,
         Err(exit) => return exit,
     };
-    let Ok(line) = line_of_passed(alloc, &opening.catalog, &opening.rows) else {
+    let Ok(line) = line_of_passed(alloc, &passed.catalog, &passed.rows) else {
         return Exit::Memory;
     };
     if put_all(line.as_slice(), out) {
@@ -155,7 +167,7 @@ fn run_replay<F: Source, O: Sink>(
     replay(alloc, &opening, bytes.as_slice(), out)
 }
 
-/// Reads a catalogue and checks it, and drops its bytes.
+/// What a session over a catalogue answers from, where the catalogue passes its check.
 fn read_opening<F: Source>(alloc: Global, name: &str, files: &mut F) -> Result<Opening, Exit>
     ensures readable { OnOk result (IsReadable (F.files files.old) name.now) }
     ensures checked { IfOk result (λ opening. IsCheckedFile (F.files files.old) name.now opening.catalog opening.rows) }
@@ -165,41 +177,61 @@ fn read_opening<F: Source>(alloc: Global, name: &str, files: &mut F) -> Result<O
     ensures reads { IfErr result (λ exit. CountsReads exit (F.files files.old).faults (F.files files.new).faults) }
     ensures lasts { Lasts (F.files files.old) (F.files files.new) }
 {
+    let passed = read_catalogue(alloc, name, files)?;
+    opening_of(alloc, passed)
+}
+
+/// Reads a catalogue and checks it, and drops its bytes.
+fn read_catalogue<F: Source>(alloc: Global, name: &str, files: &mut F) -> Result<Passed, Exit>
+    ensures readable { OnOk result (IsReadable (F.files files.old) name.now) }
+    ensures checked { IfOk result (λ passed. IsCheckedFile (F.files files.old) name.now passed.catalog passed.rows) }
+    ensures passes { IfOk result HasPassed }
+    ensures err { IfErr result (λ exit. IsOpeningExit (F.files files.old) name.now exit (F.files files.new)) }
+    ensures quiet { OnOk result ((F.files files.new).faults ≡ (F.files files.old).faults) }
+    ensures reads { IfErr result (λ exit. CountsReads exit (F.files files.old).faults (F.files files.new).faults) }
+    ensures lasts { Lasts (F.files files.old) (F.files files.new) }
+{
     let bytes = read_whole(alloc, name, files)?;
     match parse_catalog(alloc, bytes.as_slice()) {
-        Ok((catalog, rows)) => checked_opening(alloc, catalog, rows),
+        Ok((catalog, rows)) => checked_catalogue(alloc, catalog, rows),
         Err(CatalogRefused::Memory) => Err(Exit::Memory),
         Err(why) => Err(Exit::Catalogue(CatalogueFault::Parse(why))),
     }
 }
 
 /// The catalogue and its rows, where they pass their check.
-fn checked_opening(alloc: Global, catalog: Catalog, rows: List<OpeningRow>) -> Result<Opening, Exit>
+fn checked_catalogue(
+    alloc: Global,
+    catalog: Catalog,
+    rows: List<OpeningRow>,
+) -> Result<Passed, Exit>
     requires { IsFormed catalog rows }
-    ensures passes { IfOk result (λ opening. (opening.catalog ≡ catalog) × (opening.rows ≡ rows) × Passes catalog rows) }
-    ensures servable { IfOk result IsServable }
+    ensures same { IfOk result (λ it. (it.catalog ≡ catalog) × (it.rows ≡ rows)) }
+    ensures passes { IfOk result HasPassed }
     ensures refused { IfErr result (λ exit. IsUnpassedExit exit catalog rows) }
 {
     match check_catalog(alloc, &catalog, &rows) {
-        Ok(model) => made_opening(alloc, catalog, rows, model),
+        Ok(model) => Ok(Passed {
+            catalog,
+            rows,
+            model,
+        }),
         Err(CheckRefused::Memory) => Err(Exit::Memory),
         Err(why) => Err(Exit::Catalogue(CatalogueFault::Check(why, catalog))),
     }
 }
 
-fn made_opening(
-    alloc: Global,
-    catalog: Catalog,
-    rows: List<OpeningRow>,
-    model: Model,
-) -> Result<Opening, Exit>
-    requires formed { IsFormed catalog rows }
-    requires passes { Passes catalog rows }
-    requires model { model ≡ catalog.model }
-    ensures opened { IfOk result (λ opening. (opening.catalog ≡ catalog) × (opening.rows ≡ rows)) }
+fn opening_of(alloc: Global, passed: Passed) -> Result<Opening, Exit>
+    requires { HasPassed passed }
+    ensures opened { IfOk result (λ opening. (opening.catalog ≡ passed.catalog) × (opening.rows ≡ passed.rows)) }
     ensures servable { IfOk result IsServable }
     ensures memory { IfErr result (λ why. why ≡ exit.Memory) }
 {
+    let Passed {
+        catalog,
+        rows,
+        model,
+    } = passed;
     match Opening::new(alloc, catalog, rows, model) {
         Ok(opening) => Ok(opening),
         Err(Memory) => Err(Exit::Memory),
