@@ -10,12 +10,8 @@ set -eu
 top=$(cd "$(dirname "$0")/.." && pwd)
 work=$(mktemp -d)
 trap 'rm -rf "$work"' EXIT
+"$top/bench/copy_crates.py" "$work" condition_sat feature_expr
 mkdir -p "$work/crates/speed/src" "$work/crates/speed/specs"
-for crate in feature_expr condition_sat; do
-  mkdir "$work/crates/$crate"
-  cp -r "$top/crates/$crate/src" "$top/crates/$crate/specs" "$top/crates/$crate/proofs" "$work/crates/$crate/"
-done
-grep -E '^(feature_expr|condition_sat):' "$top/crates.txt" > "$work/crates.txt"
 echo 'speed: condition_sat feature_expr' >> "$work/crates.txt"
 : > "$work/crates/speed/specs/Lib.antt"
 cat > "$work/crates/speed/src/main.rt" <<'PROGRAM'

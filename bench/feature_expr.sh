@@ -5,11 +5,8 @@ set -eu
 top=$(cd "$(dirname "$0")/.." && pwd)
 work=$(mktemp -d)
 trap 'rm -rf "$work"' EXIT
-mkdir -p "$work/crates/speed/src" "$work/crates/speed/specs" "$work/crates/feature_expr"
-for part in src specs proofs; do
-  cp -r "$top/crates/feature_expr/$part" "$work/crates/feature_expr/"
-done
-grep -E '^feature_expr:' "$top/crates.txt" > "$work/crates.txt"
+"$top/bench/copy_crates.py" "$work" feature_expr
+mkdir -p "$work/crates/speed/src" "$work/crates/speed/specs"
 echo 'speed: feature_expr' >> "$work/crates.txt"
 : > "$work/crates/speed/specs/Lib.antt"
 cat > "$work/crates/speed/src/main.rt" <<'PROGRAM'

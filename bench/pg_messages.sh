@@ -5,12 +5,8 @@ set -eu
 top=$(cd "$(dirname "$0")/.." && pwd)
 work=$(mktemp -d)
 trap 'rm -rf "$work"' EXIT
+"$top/bench/copy_crates.py" "$work" pg_messages values
 mkdir -p "$work/crates/speed/src" "$work/crates/speed/specs"
-for crate in values pg_messages; do
-  mkdir "$work/crates/$crate"
-  cp -r "$top/crates/$crate/src" "$top/crates/$crate/specs" "$top/crates/$crate/proofs" "$work/crates/$crate/"
-done
-grep -E '^(values|pg_messages):' "$top/crates.txt" > "$work/crates.txt"
 echo 'speed: pg_messages values' >> "$work/crates.txt"
 : > "$work/crates/speed/specs/Lib.antt"
 cat > "$work/crates/speed/src/main.rt" <<'PROGRAM'

@@ -5,13 +5,7 @@ set -eu
 top=$(cd "$(dirname "$0")/.." && pwd)
 work=$(mktemp -d)
 trap 'rm -rf "$work"' EXIT
-for crate in feature_expr vra_syntax query_printer query_parser; do
-  mkdir -p "$work/crates/$crate"
-  for part in src specs proofs; do
-    cp -r "$top/crates/$crate/$part" "$work/crates/$crate/"
-  done
-  grep -E "^$crate:" "$top/crates.txt" >> "$work/crates.txt"
-done
+"$top/bench/copy_crates.py" "$work" feature_expr query_parser vra_syntax
 mkdir -p "$work/crates/speed/src" "$work/crates/speed/specs"
 echo 'speed: feature_expr query_parser vra_syntax' >> "$work/crates.txt"
 : > "$work/crates/speed/specs/Lib.antt"

@@ -8,19 +8,10 @@ set -eu
 top=$(cd "$(dirname "$0")/.." && pwd)
 work=$(mktemp -d)
 trap 'rm -rf "$work"' EXIT
+"$top/bench/copy_crates.py" "$work" condition_sat feature_expr vtable
 mkdir -p "$work/crates/speed/src" "$work/crates/speed/specs"
-for crate in feature_expr plain_relation condition_sat vtable; do
-  mkdir "$work/crates/$crate"
-  for part in src specs proofs; do
-    if [ -d "$top/crates/$crate/$part" ]; then cp -r "$top/crates/$crate/$part" "$work/crates/$crate/"; fi
-  done
-done
-grep -E '^(feature_expr|plain_relation|condition_sat|vtable):' "$top/crates.txt" > "$work/crates.txt"
 echo 'speed: condition_sat feature_expr vtable' >> "$work/crates.txt"
 : > "$work/crates/speed/specs/Lib.antt"
-# The program times tables that it makes: their being well formed is left to it, so the calls without that condition
-# are made public here.
-sed -i 's/^pub use configured::configure;/pub use configured::{configure, made_plain};/; s/^pub use out_table::{OutTable, normal};/pub use out_table::{OutTable, made_normal, normal};/' "$work/crates/vtable/src/lib.rt"
 cat > "$work/crates/speed/src/main.rt" <<'PROGRAM'
 #![tactic(auto)]
 

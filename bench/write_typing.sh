@@ -5,17 +5,7 @@ set -eu
 top=$(cd "$(dirname "$0")/.." && pwd)
 work=$(mktemp -d)
 trap 'rm -rf "$work"' EXIT
-for crate in values word_tokens feature_expr plain_relation condition_sat asked_conditions vschema vra_syntax \
-  relational_algebra query_meaning query_names conditional_columns simple_conditions query_typing write_typing query_printer \
-  query_parser; do
-  mkdir -p "$work/crates/$crate"
-  for part in src specs proofs; do
-    if [ -d "$top/crates/$crate/$part" ]; then
-      cp -r "$top/crates/$crate/$part" "$work/crates/$crate/"
-    fi
-  done
-  grep -E "^$crate:" "$top/crates.txt" >> "$work/crates.txt"
-done
+"$top/bench/copy_crates.py" "$work" asked_conditions condition_sat feature_expr query_names query_parser values vra_syntax vschema write_typing
 mkdir -p "$work/crates/speed/src" "$work/crates/speed/specs"
 echo 'speed: asked_conditions condition_sat feature_expr query_names query_parser values vra_syntax vschema write_typing' >> "$work/crates.txt"
 : > "$work/crates/speed/specs/Lib.antt"
