@@ -58,6 +58,7 @@ impl Keeper for OwnLog {
         }
     }
 
+    #[tactic(auto, using(crate::proofs::PlaceLaws::ascend))]
     fn seen(&self) -> u64 {
         self.commits.len() as u64
     }
@@ -128,6 +129,7 @@ impl Keeper for FailingLog {
         self.inner.append(commit)
     }
 
+    #[tactic(auto, using(crate::proofs::PlaceLaws::ascend))]
     fn seen(&self) -> u64 {
         self.inner.seen()
     }
