@@ -7,7 +7,7 @@ use Rattle.query_meaning.specs.Names.{Named, names_of}
 use Rattle.query_meaning.specs.Parameters.{without_kind}
 use Rattle.query_meaning.specs.declared.ill.TypeRefused.{TypeRefused}
 use Rattle.query_meaning.specs.declared.ill.TypeRefused.TheVariants as refused
-use Rattle.query_names.specs.NameCases.{RefusesNames, Shows, first_case, names_table, shown}
+use Rattle.query_names.specs.NameCases.{RefusesNames, Shows, ShowsFirst, first_case, names_table, shown}
 use Rattle.values.specs.declared.value.Kind.{Kind}
 use Rattle.vra_syntax.specs.declared.query.Query.{Query}
 use Rattle.vschema.specs.declared.catalog.Table.{Table}
@@ -75,3 +75,8 @@ case_holds kinds tables query names one (refused.Ill why) said narrow first show
 )
 case_holds kinds tables query names one (refused.TooWide count) said narrow first shows = absurd shows
 case_holds kinds tables query names one refused.Memory said narrow first shows = tt
+
+pub first_shown : (kinds : List Kind) (tables : List Table) (query : Query) (names : Named) (one : Case) (why : TypeRefused) → names ≡ names_of tables query → first_case kinds names ≡ Some one → Shows one why → ShowsFirst kinds tables query why
+first_shown kinds tables query names one (refused.Ill why) said first shows = ap (first_case kinds) (sym said) ∙ first ∙ ap (λ (c : Case). Some c) (sym shows.1)
+first_shown kinds tables query names one (refused.TooWide count) said first shows = tt
+first_shown kinds tables query names one refused.Memory said first shows = tt

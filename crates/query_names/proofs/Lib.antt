@@ -1,3 +1,4 @@
+mod BoundPlanLaws
 mod CaseLaws
 mod ColumnLaws
 mod CoverLaws

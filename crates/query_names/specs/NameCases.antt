@@ -4,7 +4,7 @@ use Rattle.std.specs.Prelude.{◌≡◌, Bool, true, false, List, Option, Some, 
 use Rattle.std.specs.List.{find}
 use Rattle.std.specs.Option.{option_or}
 use Rattle.query_meaning.specs.Cases.{Case, IsOneOf, case_of, no_kind}
-use Rattle.query_meaning.specs.Names.{Named, name_cases, too_wide}
+use Rattle.query_meaning.specs.Names.{Named, name_cases, names_of, too_wide}
 use Rattle.query_meaning.specs.Parameters.{without_kind}
 use Rattle.query_meaning.specs.declared.ill.IllCase.{IllCase}
 use Rattle.query_meaning.specs.declared.ill.IllCase.TheVariants as ill
@@ -45,3 +45,10 @@ abbrev pub RefusesNames : List Kind → List Table → Query → TypeRefused →
 RefusesNames kinds tables query (refused.TooWide count) = too_wide tables query ≡ Some count
 RefusesNames kinds tables query (refused.Ill why) = (too_wide tables query ≡ None) × (why.config ≡ None) × IsOneOf (name_cases kinds tables query) (case_of why)
 RefusesNames kinds tables query refused.Memory = Unit {0}
+
+-- A refusal for another reason than width shows the first unknown table, else the first unknown column, else the first
+-- parameter without a kind.
+abbrev pub ShowsFirst : List Kind → List Table → Query → TypeRefused → Type 0
+ShowsFirst kinds tables query (refused.TooWide count) = Unit {0}
+ShowsFirst kinds tables query (refused.Ill why) = first_case kinds (names_of tables query) ≡ Some (case_of why)
+ShowsFirst kinds tables query refused.Memory = Unit {0}

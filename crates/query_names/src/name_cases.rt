@@ -5,7 +5,7 @@ ghost use Rattle.query_meaning.specs.Cases.{case_of, no_kind};
 ghost use Rattle.query_meaning.specs.Names.{name_cases, too_wide};
 ghost use Rattle.query_meaning.specs.Parameters.{kind_at, without_kind};
 ghost use Rattle.query_names.specs.Findings.{case_for, cases, places};
-ghost use Rattle.query_names.specs.NameCases.{RefusesNames, Shows, fault_case, names_table, shown};
+ghost use Rattle.query_names.specs.NameCases.{RefusesNames, Shows, ShowsFirst, fault_case, names_table, shown};
 
 use crate::found::{Findings, ParamPlace, UnknownName};
 use crate::query_walk::names_of;
@@ -25,9 +25,7 @@ pub enum NameFault<'a> {
 }
 
 /// Tells whether all names of a query are known and its parameters have kinds, in branches that no variant takes too.
-///
-/// Of several unknown names a table's is shown.
-#[tactic(auto, using(crate::proofs::CaseLaws::no_case, crate::proofs::CaseLaws::case_holds))]
+#[tactic(auto, using(crate::proofs::CaseLaws::no_case, crate::proofs::CaseLaws::case_holds, crate::proofs::CaseLaws::first_shown))]
 pub fn check_names(
     alloc: Global,
     tables: &TableNames<'_>,
@@ -37,6 +35,7 @@ pub fn check_names(
     ensures narrow { OnOk result (too_wide tables.now.tables.now query.now ≡ None) }
     ensures named { OnOk result (name_cases kinds.now tables.now.tables.now query.now ≡ []) }
     ensures refused { IfErr result (λ why. RefusesNames kinds.now tables.now.tables.now query.now why) }
+    ensures shown { IfErr result (λ why. ShowsFirst kinds.now tables.now.tables.now query.now why) }
 {
     let names = match names_of(alloc, tables, query) {
         Ok(names) => names,

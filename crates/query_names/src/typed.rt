@@ -1,5 +1,5 @@
-ghost use Rattle.std.specs.Prelude.{◌≡◌, IfOk};
-ghost use Rattle.query_meaning.specs.Plans.{bound_plan};
+ghost use Rattle.std.specs.Prelude.{◌≡◌, ◌≤◌, length, IfOk};
+ghost use Rattle.query_meaning.specs.Plans.{bound_plan, param_in_plan};
 
 use crate::plan_binding::bound_plan;
 use query_meaning::{Plan, TableColumns, TypedColumn};
@@ -62,8 +62,10 @@ impl Typed {
 }
 
 /// A typed query with each parameter of its plan that has a value replaced by it: number 1 by the first, and so on.
+#[tactic(auto, using(crate::proofs::BoundPlanLaws::no_parameter_left))]
 pub fn bind_plan(alloc: Global, typed: &Typed, values: &List<Value>) -> Result<Typed, Memory>
     ensures bound { IfOk result (λ it. it.plan ≡ bound_plan values.now typed.now.plan) }
+    ensures whole { IfOk result (λ it. param_in_plan typed.now.plan ≤ length values.now → param_in_plan it.plan ≡ 0) }
     ensures columns { IfOk result (λ it. it.columns ≡ typed.now.columns) }
     ensures tables { IfOk result (λ it. it.tables ≡ typed.now.tables) }
 {
