@@ -2,7 +2,6 @@
 use Rattle.std.proofs.Common.{◌≡◌, ◌∙◌, ℕ, ◌==◌, Bool, true, false, ◌||◌, List, [], ◌∷◌, refl, sym, subst, true≢false}
 use Rattle.std.specs.List.{list_any}
 use Rattle.feature_expr.specs.Expressions.{mentions}
-use Rattle.feature_expr.specs.declared.expr.Expr as e
 use Rattle.relational_algebra.specs.Mentions.{cond_mentions, items_mention}
 use Rattle.row_conditions.proofs.BoolLaws.{neither}
 use Rattle.plan_exec.specs.RunTables.{run_step, run_table, table_by}

@@ -3,3 +3,4 @@ pub mod FeatureLaws
 pub mod RunLaws
 pub mod ScanLaws
 pub mod RunSizes
+mod PairLaws

@@ -132,7 +132,7 @@ module _ (laws : Growing) (tables : List TableRows) where
     run_sized : (p : Plan) → P p
     run_sized = ind-Plan P (λ x y is. subst (λ z. P (roll-Plan z)) is (layer y))
 
-run_within : Growing → (model : Expr) (tables : List TableRows) → AllByRecursion (λ (table : TableRows). IsStored model table.rows) tables → (p : Plan) → IsWithin (size_of (run_table tables p)) (plan_size (rows_source tables) (rows_size tables) p)
+pub run_within : Growing → (model : Expr) (tables : List TableRows) → AllByRecursion (λ (table : TableRows). IsStored model table.rows) tables → (p : Plan) → IsWithin (size_of (run_table tables p)) (plan_size (rows_source tables) (rows_size tables) p)
 run_within laws model tables stored p = (run_sized laws tables model (all_stored model tables stored) p).within
 
 pub run_is : Growing → (model : Expr) (tables : List TableRows) (p : Plan) (table : VTable) → CanRun model tables p → table ≡ run_table tables p → IsRunOf model tables p table

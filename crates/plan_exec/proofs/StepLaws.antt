@@ -17,7 +17,7 @@ rewrapped_table_push [] step inner = refl
 rewrapped_table_push (s ∷ steps) step inner = ap (λ t. wrapped_table s t) (rewrapped_table_push steps step inner)
 
 -- a join's table is made of its sides'
-run_join : (tables : List TableRows) (left right : Plan) (cond : Cond) → run_table tables (plan.Join left right cond) ≡ joined_table cond (run_table tables left) (run_table tables right)
+pub run_join : (tables : List TableRows) (left right : Plan) (cond : Cond) → run_table tables (plan.Join left right cond) ≡ joined_table cond (run_table tables left) (run_table tables right)
 unfolding roll-Plan Carrier.roll
 run_join tables left right cond = fold-roll-Plan VTable (run_step tables) (Plan-F.Join left right cond)
 

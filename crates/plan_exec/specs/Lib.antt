@@ -1,3 +1,4 @@
 pub mod RunTables
+pub mod RunPairs
 pub mod Scanned
 pub mod Runs

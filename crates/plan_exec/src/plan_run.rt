@@ -1,5 +1,6 @@
-ghost use Rattle.std.specs.Prelude.{◌≡◌, ◌≤◌, IfOk, OnOk};
-ghost use Rattle.plan_exec.specs.Runs.{CanRun, IsRunOf};
+ghost use Rattle.std.specs.Prelude.{◌≡◌, ◌≤◌, ◌+◌, IfOk, OnOk};
+ghost use Rattle.plan_exec.specs.RunPairs.{rewrapped_pairs, run_pairs, wrapped_pairs};
+ghost use Rattle.plan_exec.specs.Runs.{CanRun, IsRunOf, steps_bound};
 ghost use Rattle.plan_tables.specs.StoredRows.{rows_of};
 ghost use Rattle.plan_operators.specs.Operators.{filtered_table};
 ghost use Rattle.plan_exec.specs.RunTables.{rewrapped_table, run_table, table_by, wrapped_table};
@@ -29,7 +30,8 @@ pub enum PlanStep<'a> {
     Choose(&'a Expr, VTable),
 }
 
-/// The plan's answer in all variants at once. Nothing is done for each variant: the model is asked nothing.
+/// The plan's answer in all variants at once. Nothing is done for each variant: the model is asked nothing. Each pair of
+/// rows that is formed is a step.
 pub fn run<L: Ledger>(
     alloc: Global,
     plan: &Plan,
@@ -38,7 +40,8 @@ pub fn run<L: Ledger>(
     steps: &mut Steps<L>,
 ) -> Result<VTable, Memory>
     requires { CanRun model.now rows.now.tables plan.now }
-    ensures { IfOk result (λ table. IsRunOf model.now rows.now.tables plan.now table) }
+    ensures made { IfOk result (λ table. IsRunOf model.now rows.now.tables plan.now table) }
+    ensures steps { steps.new ≤ steps.old + steps_bound rows.now.tables plan.now }
 {
     let _model = model;
     bound_laws();
@@ -53,7 +56,8 @@ fn run_plan<L: Ledger>(
     tables: &[TableRows],
     steps: &mut Steps<L>,
 ) -> Result<VTable, Memory>
-    ensures { IfOk result (λ table. table ≡ run_table tables.now plan.now) }
+    ensures made { IfOk result (λ table. table ≡ run_table tables.now plan.now) }
+    ensures steps { steps.new ≤ steps.old + run_pairs tables.now plan.now }
 {
     let mut chain = Vec::new(alloc);
     let mut at = plan;
@@ -110,28 +114,30 @@ fn run_plan<L: Ledger>(
 }
 
 /// Adds the innermost step so far, the one round `inner`.
-#[tactic(auto, using(crate::proofs::StepLaws::rewrapped_table_push))]
+#[tactic(auto, using(crate::proofs::StepLaws::rewrapped_table_push, crate::proofs::PairLaws::rewrapped_pairs_push))]
 fn put_step<'a>(
     chain: &mut Vec<PlanStep<'a>>,
     step: PlanStep<'a>,
     inner: &Plan,
     tables: &[TableRows],
 ) -> Result<(), Memory>
-    ensures { OnOk result (let table = run_table tables.now inner.now in rewrapped_table chain.new.items table ≡ rewrapped_table chain.old.items (wrapped_table step.entry table)) }
+    ensures made { OnOk result (let table = run_table tables.now inner.now in rewrapped_table chain.new.items table ≡ rewrapped_table chain.old.items (wrapped_table step.entry table)) }
+    ensures pairs { OnOk result (let table = run_table tables.now inner.now in rewrapped_pairs chain.new.items table ≡ rewrapped_pairs chain.old.items (wrapped_table step.entry table) + wrapped_pairs step.entry table) }
 {
     chain.push(step)?;
     Ok(())
 }
 
 /// The table that the steps make of the innermost left side's. The first step is the outermost.
-#[tactic(auto, using(crate::proofs::StepLaws::rewrapped_table_push))]
+#[tactic(auto, using(crate::proofs::StepLaws::rewrapped_table_push, crate::proofs::PairLaws::rewrapped_pairs_push))]
 fn rebuilt<L: Ledger>(
     alloc: Global,
     base: VTable,
     chain: Vec<PlanStep>,
     steps: &mut Steps<L>,
 ) -> Result<VTable, Memory>
-    ensures { IfOk result (λ table. table ≡ rewrapped_table chain.entry.items base) }
+    ensures made { IfOk result (λ table. table ≡ rewrapped_table chain.entry.items base) }
+    ensures steps { steps.new ≤ steps.old + rewrapped_pairs chain.entry.items base }
 {
     let mut chain = chain;
     let mut whole = base;
@@ -147,7 +153,8 @@ fn wrap<L: Ledger>(
     table: VTable,
     steps: &mut Steps<L>,
 ) -> Result<VTable, Memory>
-    ensures { IfOk result (λ it. it ≡ wrapped_table step.entry table) }
+    ensures made { IfOk result (λ it. it ≡ wrapped_table step.entry table) }
+    ensures steps { steps.new ≤ steps.old + wrapped_pairs step.entry table }
 {
     match step {
         PlanStep::Filter(cond) => filtered(alloc, cond, &table),

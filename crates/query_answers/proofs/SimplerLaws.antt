@@ -1,9 +1,8 @@
 -- Rows under simplified conditions say what the rows said.
-use Rattle.std.proofs.Common.{◌≡◌, ℕ, ◌+◌, ◌≤◌, ◌||◌, Bool, true, false, List, [], ◌∷◌, ◌++◌, map, filter, length, Option, refl, sym, ◌∙◌, ap, subst, arith, if◌then◌else◌}
+use Rattle.std.proofs.Common.{◌≡◌, ℕ, ◌≤◌, ◌||◌, Bool, true, false, List, [], ◌∷◌, ◌++◌, map, filter, length, Option, refl, sym, ◌∙◌, ap, subst, arith, if◌then◌else◌}
 use Rattle.std.specs.List.{list_all, list_any}
 use Rattle.std.proofs.lemmas.Bool.{or_right}
 use Rattle.std.proofs.lemmas.List.Sums.{sum_by-cons}
-use Rattle.condition_sat.specs.Admitted.{IsAdmitted}
 use Rattle.feature_expr.specs.Expressions.{mentions, weight_of}
 use Rattle.feature_expr.specs.Satisfaction.{satisfies}
 use Rattle.feature_expr.specs.declared.expr.Expr.{Expr}
@@ -12,14 +11,13 @@ use Rattle.plan_exec.specs.Runs.{IsRunOf}
 use Rattle.plan_tables.specs.StoredRows.{database_of, rows_source}
 use Rattle.plan_tables.specs.StoredRows as stored_rows
 use Rattle.plan_tables.specs.declared.rows.TableRows.{TableRows}
-use Rattle.query_answers.specs.SimplerRows.{AreSimpler, IsSimpler, IsSimplified, PutsSimpler}
+use Rattle.query_answers.specs.SimplerRows.{AreSimpler, IsSimpler, PutsSimpler}
 use Rattle.query_meaning.specs.Meaning.{plan_meaning}
 use Rattle.query_meaning.specs.declared.plan.Plan.{Plan}
 use Rattle.simple_conditions.specs.Simpler.{Simplifies}
 use Rattle.values.specs.declared.value.Value.{Value}
-use Rattle.vtable.specs.Answers.{IsAnswerAt, answer_at, fits, is_whole, places_at, rows_at}
+use Rattle.vtable.specs.Answers.{IsAnswerAt, answer_at, fits, is_whole, places_at}
 use Rattle.vtable.specs.TableForm.{rows_mention, rows_weight}
-use Rattle.vtable.specs.declared.table.VColumn.{VColumn}
 use Rattle.vtable.specs.declared.table.VRow.{VRow}
 use Rattle.vtable.specs.declared.table.VTable.{VTable}
 

@@ -1,6 +1,7 @@
 //! The answer to a typed query.
 
-ghost use Rattle.std.specs.Prelude.{IfOk};
+ghost use Rattle.std.specs.Prelude.{◌≤◌, ◌+◌, IfOk};
+ghost use Rattle.plan_exec.specs.Runs.{steps_bound};
 ghost use Rattle.query_answers.specs.Answering.{CanAnswer, IsAnswerFrom};
 
 use crate::retype::retyped;
@@ -25,7 +26,8 @@ pub fn answer_query<L: Ledger>(
     steps: &mut Steps<L>,
 ) -> Result<OutTable, Memory>
     requires { CanAnswer model.now rows.now.tables typed.now }
-    ensures { IfOk result (λ out. IsAnswerFrom model.now rows.now.tables typed.now out) }
+    ensures answer { IfOk result (λ out. IsAnswerFrom model.now rows.now.tables typed.now out) }
+    ensures steps { steps.new ≤ steps.old + steps_bound rows.now.tables typed.now.plan }
 {
     query_laws();
     column_laws();

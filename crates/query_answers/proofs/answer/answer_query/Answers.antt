@@ -15,7 +15,7 @@ pub normal-requires-clause-distinct : goal.normal-requires-clause-distinct
 normal-requires-clause-distinct g c =
     let r = c.requires in
     let first = c.in_ok-possible.field-0 in
-    let run = subst (λ (p : Plan). IsRunOf c.args.model.now c.args.rows.now.tables p first) c.plan.ensures c.in_ok-possible.ensures in
+    let run = subst (λ (p : Plan). IsRunOf c.args.model.now c.args.rows.now.tables p first) c.plan.ensures c.in_ok-possible.ensures.made in
     let ran = with_rows first c.in_ok-rows.rows in
     let is = simpler_run c.args.model.now c.args.rows.now.tables c.args.typed.now.plan first c.in_ok-rows.rows run c.in_ok-rows.ensures in
     let same : c.in_ok-columns.columns ≡ retyped ran.columns c.args.typed.now.columns = c.in_ok-columns.ensures ∙ ap (λ xs. retyped xs c.as_slice-2.result.now) c.as_slice.ensures ∙ ap (retyped ran.columns) (c.as_slice-2.ensures ∙ c.columns.ensures) in
@@ -25,17 +25,17 @@ pub normal-requires-clause-answers : goal.normal-requires-clause-answers
 normal-requires-clause-answers g c =
     let r = c.requires in
     let first = c.in_ok-possible.field-0 in
-    let run = subst (λ (p : Plan). IsRunOf c.args.model.now c.args.rows.now.tables p first) c.plan.ensures c.in_ok-possible.ensures in
+    let run = subst (λ (p : Plan). IsRunOf c.args.model.now c.args.rows.now.tables p first) c.plan.ensures c.in_ok-possible.ensures.made in
     let ran = with_rows first c.in_ok-rows.rows in
     let is = simpler_run c.args.model.now c.args.rows.now.tables c.args.typed.now.plan first c.in_ok-rows.rows run c.in_ok-rows.ensures in
     let same : c.in_ok-columns.columns ≡ retyped ran.columns c.args.typed.now.columns = c.in_ok-columns.ensures ∙ ap (λ xs. retyped xs c.as_slice-2.result.now) c.as_slice.ensures ∙ ap (retyped ran.columns) (c.as_slice-2.ensures ∙ c.columns.ensures) in
     λ at admitted. subst (λ (columns : List VColumn). IsAnswerAt at (let it : VTable = record { columns = columns; rows = ran.rows } in it)) (sym same)
     (new_answers c.query_laws.ensures.columns c.column_laws.ensures.plan_once c.args.model.now r.kinds r.tables r.query c.args.typed.now.columns c.args.typed.now.plan c.args.rows.now.tables r.typed r.held r.run ran is at admitted)
 
-pub returns : goal.returns
-returns g c =
+pub returns-clause-answer : goal.returns-clause-answer
+returns-clause-answer g c =
     let first = c.in_ok-possible.field-0 in
-    let run = subst (λ (p : Plan). IsRunOf c.args.model.now c.args.rows.now.tables p first) c.plan.ensures c.in_ok-possible.ensures in
+    let run = subst (λ (p : Plan). IsRunOf c.args.model.now c.args.rows.now.tables p first) c.plan.ensures c.in_ok-possible.ensures.made in
     let ran = with_rows first c.in_ok-rows.rows in
     let is = simpler_run c.args.model.now c.args.rows.now.tables c.args.typed.now.plan first c.in_ok-rows.rows run c.in_ok-rows.ensures in
     let same : c.in_ok-columns.columns ≡ retyped ran.columns c.args.typed.now.columns = c.in_ok-columns.ensures ∙ ap (λ xs. retyped xs c.as_slice-2.result.now) c.as_slice.ensures ∙ ap (retyped ran.columns) (c.as_slice-2.ensures ∙ c.columns.ensures) in
