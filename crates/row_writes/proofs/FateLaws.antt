@@ -102,7 +102,7 @@ module _ (model : Expr) (table : Table) (expr : Expr) (cond : Cond) (row : VRow)
   touched_is = some_admitted_same model (λ c. satisfies c row.cond && ((satisfies c expr && satisfies c table.cond) && matched c)) (λ c. satisfies c table.cond && (satisfies c row.cond && satisfies c touch))
       (λ c admitted. moves (satisfies c row.cond) (satisfies c expr) (satisfies c table.cond) (matched c) ∙ ap (λ b. satisfies c table.cond && (satisfies c row.cond && b)) (sym (exact c)))
 
-  delete_by : (name : List ℕ) (touched : Bool) → can_touch model table row touch ≡ touched → IsFate model table (write.Delete name cond expr) row (fate_by touched (holding model (rest_of row touch ∷ [])))
+  delete_by : (name : List ℕ) (touched : Bool) → can_touch model table row touch ≡ touched → IsFate model table (write.Delete name cond expr) row (fate_by touched (holding model table (rest_of row touch ∷ [])))
   delete_by name false says = touched_is ∙ says
   delete_by name true says = (
     touched_is ∙ says,
@@ -115,7 +115,7 @@ module _ (model : Expr) (table : Table) (expr : Expr) (cond : Cond) (row : VRow)
     },
   )
 
-  update_by : (name : List ℕ) (items : List SetItem) (touched : Bool) → can_touch model table row touch ≡ touched → IsFate model table (write.Update name items cond expr) row (fate_by touched (holding model (rest_of row touch ∷ changed_of table.columns (map assignment_of items) row touch ∷ [])))
+  update_by : (name : List ℕ) (items : List SetItem) (touched : Bool) → can_touch model table row touch ≡ touched → IsFate model table (write.Update name items cond expr) row (fate_by touched (holding model table (rest_of row touch ∷ changed_of table.columns (map assignment_of items) row touch ∷ [])))
   update_by name items false says = touched_is ∙ says
   update_by name items true says = (
     touched_is ∙ says,

@@ -35,7 +35,7 @@ written_more model table w rows stay begun stay' begun' row fate it is stays beg
   begun_are = begins ∙ ap (λ xs. xs ++ begun_by fate) it.begun_are ∙ ap (λ xs. flat_map begun_by it.fates ++ xs) (sym (append-nil (begun_by fate))) ∙ sym (flat_map-append begun_by it.fates (fate ∷ []));
 }
 
-pub written_whole : (model : Expr) (table : Table) (w : Write) (rows stay begun added new : List VRow) → AreWritten model table w rows stay begun → added ≡ holding model (inserted table w) → new ≡ (stay ++ added) ++ begun → IsRowWrite model table w rows new
+pub written_whole : (model : Expr) (table : Table) (w : Write) (rows stay begun added new : List VRow) → AreWritten model table w rows stay begun → added ≡ holding model table (inserted table w) → new ≡ (stay ++ added) ++ begun → IsRowWrite model table w rows new
 written_whole model table w rows stay others added new it adds is = record {
   fates = it.fates;
   are_fates = it.are_fates;

@@ -44,13 +44,13 @@ fate_by touched begun = if touched then Ends begun else Stays
 pub record IsDeleted (model : Expr) (table : Table) (columns : List VColumn) (expr : Expr) (cond : Cond) (row : VRow) (fate : Fate) : Type 0 where
   pub touch : Expr
   pub touch_is : IsTouchOn expr cond columns row touch
-  pub fate_is : fate ≡ fate_by (can_touch model table row touch) (holding model (rest_of row touch ∷ []))
+  pub fate_is : fate ≡ fate_by (can_touch model table row touch) (holding model table (rest_of row touch ∷ []))
 
 -- what an UPDATE makes of the row
 pub record IsUpdated (model : Expr) (table : Table) (columns : List VColumn) (expr : Expr) (cond : Cond) (given : List Assignment) (row : VRow) (fate : Fate) : Type 0 where
   pub touch : Expr
   pub touch_is : IsTouchOn expr cond columns row touch
-  pub fate_is : fate ≡ fate_by (can_touch model table row touch) (holding model (rest_of row touch ∷ changed_of table.columns given row touch ∷ []))
+  pub fate_is : fate ≡ fate_by (can_touch model table row touch) (holding model table (rest_of row touch ∷ changed_of table.columns given row touch ∷ []))
 
 -- of these rows those stay, and these begin
 pub record AreWritten (model : Expr) (table : Table) (w : Write) (rows stay begun : List VRow) : Type 0 where

@@ -60,7 +60,7 @@ fn delete_fate(
         return Ok(Fate::Stays);
     }
     let mut begun = Vec::new(alloc);
-    put_rest(alloc, questions, &mut begun, row, &touch)?;
+    put_rest(alloc, questions, &mut begun, table, row, &touch)?;
     Ok(Fate::Ends(List::from_vec(begun)))
 }
 
@@ -82,8 +82,7 @@ fn update_fate(
         return Ok(Fate::Stays);
     }
     let mut begun = Vec::new(alloc);
-    put_rest(alloc, questions, &mut begun, row, &touch)?;
-    let stored = table.columns.as_slice();
-    put_changed(alloc, questions, &mut begun, stored, items, row, &touch)?;
+    put_rest(alloc, questions, &mut begun, table, row, &touch)?;
+    put_changed(alloc, questions, &mut begun, table, items, row, &touch)?;
     Ok(Fate::Ends(List::from_vec(begun)))
 }

@@ -5,6 +5,7 @@ ghost use Rattle.write_meaning.specs.PlainWrites.{assigned};
 ghost use Rattle.write_meaning.specs.RowWrites.{holding, inserted, inserted_row};
 
 use crate::given::listed_value;
+use crate::there::can_be_there;
 use asked_conditions::Questions;
 use feature_expr::Expr;
 use std::alloc::Global;
@@ -13,7 +14,7 @@ use vra_syntax::{Operand, Write};
 use vschema::{Column, Table};
 use vtable::VRow;
 
-/// The rows that an INSERT adds to its table, if its condition can hold. Another write adds none of its own.
+/// The rows that an INSERT adds to its table, if they can be there. Another write adds none of its own.
 pub fn inserted_rows(
     alloc: Global,
     questions: &mut Questions<'_>,
@@ -21,7 +22,7 @@ pub fn inserted_rows(
     write: &Write,
 ) -> Result<Vec<VRow>, Memory>
     ensures same { questions.new ≡ questions.old }
-    ensures rows { IfOk result (λ rows. rows.items ≡ holding questions.old (inserted table.now write.now)) }
+    ensures rows { IfOk result (λ rows. rows.items ≡ holding questions.old table.now (inserted table.now write.now)) }
 {
     match write {
         Write::Insert(_name, names, rows, expr) => {
@@ -42,9 +43,9 @@ fn held_rows(
     rows: &List<List<Operand>>,
 ) -> Result<Vec<VRow>, Memory>
     ensures same { questions.new ≡ questions.old }
-    ensures rows { IfOk result (λ it. it.items ≡ holding questions.old (map (inserted_row table.now names.now expr.now) rows.now)) }
+    ensures rows { IfOk result (λ it. it.items ≡ holding questions.old table.now (map (inserted_row table.now names.now expr.now) rows.now)) }
 {
-    let held = questions.holds_somewhere(expr)?;
+    let held = can_be_there(alloc, questions, table, expr)?;
     let out = rows_if(alloc, held, table, names, expr, rows)?;
     Ok(out)
 }

@@ -6,10 +6,12 @@ mod fates;
 mod given;
 mod inserted;
 mod split;
+mod there;
 mod touch;
 mod written;
 
 pub use columns::stored_columns;
 pub use fates::row_fate;
 pub use inserted::inserted_rows;
+pub use there::can_be_there;
 pub use written::write_rows;

@@ -5,12 +5,13 @@ ghost use Rattle.row_writes.specs.Made.{changed_of, rest_of};
 ghost use Rattle.write_meaning.specs.RowWrites.{holding};
 
 use crate::given::set_cells;
+use crate::there::can_be_there;
 use asked_conditions::Questions;
 use feature_expr::{Expr, and, not};
 use std::alloc::Global;
 use values::{Memory, TryCopy};
 use vra_syntax::SetItem;
-use vschema::Column;
+use vschema::Table;
 use vtable::VRow;
 
 /// Adds what is left of the row where it isn't touched, if that can hold.
@@ -18,14 +19,15 @@ pub fn put_rest(
     alloc: Global,
     questions: &mut Questions<'_>,
     begun: &mut Vec<VRow>,
+    table: &Table,
     row: &VRow,
     touch: &Expr,
 ) -> Result<(), Memory>
     ensures same { questions.new ≡ questions.old }
-    ensures put { OnOk result (begun.new.items ≡ begun.old.items ++ holding questions.old (rest_of row.now touch.now ∷ [])) }
+    ensures put { OnOk result (begun.new.items ≡ begun.old.items ++ holding questions.old table.now (rest_of row.now touch.now ∷ [])) }
 {
     let cond = untouched(alloc, row, touch)?;
-    if questions.holds_somewhere(&cond)? {
+    if can_be_there(alloc, questions, table, &cond)? {
         let cells = row.cells.copy(alloc)?;
         begun.push(VRow { cells, cond })?;
     }
@@ -37,17 +39,17 @@ pub fn put_changed(
     alloc: Global,
     questions: &mut Questions<'_>,
     begun: &mut Vec<VRow>,
-    columns: &[Column],
+    table: &Table,
     items: &[SetItem],
     row: &VRow,
     touch: &Expr,
 ) -> Result<(), Memory>
     ensures same { questions.new ≡ questions.old }
-    ensures put { OnOk result (begun.new.items ≡ begun.old.items ++ holding questions.old (changed_of columns.now (map assignment_of items.now) row.now touch.now ∷ [])) }
+    ensures put { OnOk result (begun.new.items ≡ begun.old.items ++ holding questions.old table.now (changed_of table.now.columns (map assignment_of items.now) row.now touch.now ∷ [])) }
 {
     let cond = touched(alloc, row, touch)?;
-    if questions.holds_somewhere(&cond)? {
-        let cells = set_cells(alloc, columns, items, row.cells.as_slice())?;
+    if can_be_there(alloc, questions, table, &cond)? {
+        let cells = set_cells(alloc, table.columns.as_slice(), items, row.cells.as_slice())?;
         begun.push(VRow { cells, cond })?;
     }
     Ok(())

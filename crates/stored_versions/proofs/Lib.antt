@@ -1,5 +1,4 @@
 pub mod ConflictLaws
-pub mod HoldingLaws
 pub mod LogLaws
 pub mod NewestLaws
 pub mod OpeningLaws

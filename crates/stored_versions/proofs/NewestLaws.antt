@@ -6,8 +6,8 @@ use Rattle.std.proofs.lemmas.List.{map-append}
 use Rattle.std.proofs.lemmas.List.Elements.{filter-append}
 use Rattle.feature_expr.specs.declared.expr.Expr.{Expr}
 use Rattle.write_meaning.specs.RowWrites.{IsFate, AreFates, staying, begun_by, begun, holding, inserted, IsRowWrite}
-use Rattle.stored_versions.specs.Versions.{Version, sees, sees_of, ended_at, is_open, is_newest, newest_rows, rows_seen, seen_at, without_end, EndsBy, IsPlaced}
-use Rattle.stored_versions.specs.VersionWrites.{Held, AreVersionFates, ended_version, by_fate, ended_in, begun_versions, IsTableWrite}
+use Rattle.version_lists.specs.Versions.{Version, begun_versions, ended_version, sees, sees_of, ended_at, is_open, is_newest, newest_rows, rows_seen, seen_at, without_end, EndsBy, IsPlaced}
+use Rattle.stored_versions.specs.VersionWrites.{Held, AreVersionFates, by_fate, ended_in, IsTableWrite}
 use Rattle.vra_syntax.specs.declared.write.Write.{Write}
 use Rattle.vschema.specs.declared.catalog.Table.{Table}
 use Rattle.vtable.specs.declared.table.VRow.{VRow}
@@ -112,7 +112,7 @@ module _ (model : Expr) (number : ℕ) (table : Table) (w : Write) where
         ap (newest_rows number) it.versions
         ∙ rows_append number (ended_in k old.versions it.fates) (begun_versions old.next k number (begun model table w it.fates))
         ∙ ap₂ (λ xs ys. xs ++ ys) (stay k old.versions it.fates it.are_fates)
-        (newest_begun k old.next (begun model table w it.fates) ∙ ap (λ xs. holding model (inserted table w) ++ xs) (begun_same old.versions it.fates it.are_fates));
+        (newest_begun k old.next (begun model table w it.fates) ∙ ap (λ xs. holding model table (inserted table w) ++ xs) (begun_same old.versions it.fates it.are_fates));
   }
 
 -- The snapshot of all applied commits sees the newest rows.

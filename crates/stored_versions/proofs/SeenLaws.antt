@@ -7,9 +7,9 @@ use Rattle.feature_expr.specs.declared.expr.Expr.{Expr}
 use Rattle.stored_versions.specs.Catalogues.{catalog_after, written_number}
 use Rattle.write_meaning.specs.RowWrites.{IsFate, begun}
 use Rattle.write_meaning.specs.TakenWrites.{is_taken}
-use Rattle.stored_versions.specs.Versions.{Version, sees, ended_at, without_end, seen_at, is_open, is_newest, may_stay, may_stay_by, cleaned, EndsBy, IsPlaced}
+use Rattle.version_lists.specs.Versions.{Version, begun_versions, ended_version, sees, ended_at, without_end, seen_at, is_open, is_newest, may_stay, may_stay_by, cleaned, EndsBy, IsPlaced}
 use Rattle.std.specs.List.{AllByRecursion}
-use Rattle.stored_versions.specs.VersionWrites.{Held, AreVersionFates, ended_version, by_fate, ended_in, begun_versions, IsTableWrite, WritesTable, WritesNumber, Writes}
+use Rattle.stored_versions.specs.VersionWrites.{Held, AreVersionFates, by_fate, ended_in, IsTableWrite, WritesTable, WritesNumber, Writes}
 use Rattle.vra_syntax.specs.declared.write.Write.{Write}
 use Rattle.vschema.specs.declared.catalog.Catalog.{Catalog}
 use Rattle.vschema.specs.declared.catalog.Table.{Table}

@@ -1,9 +1,7 @@
 pub mod Catalogues
 pub mod Conflicts
 pub mod Databases
-pub mod Holdings
 pub mod Logs
 pub mod Openings
 pub mod StoredViews
 pub mod VersionWrites
-pub mod Versions

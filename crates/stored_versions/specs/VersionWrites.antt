@@ -4,7 +4,7 @@ use Rattle.feature_expr.specs.declared.expr.Expr.{Expr}
 use Rattle.stored_versions.specs.Catalogues.{catalog_after, written_number}
 use Rattle.write_meaning.specs.RowWrites.{IsFate, begun}
 use Rattle.write_meaning.specs.TakenWrites.{is_taken}
-use Rattle.stored_versions.specs.Versions.{Version, is_newest}
+use Rattle.version_lists.specs.Versions.{Version, begun_versions, ended_version, is_newest}
 use Rattle.vra_syntax.specs.declared.write.Write.{Write}
 use Rattle.vschema.specs.declared.catalog.Catalog.{Catalog}
 use Rattle.vschema.specs.declared.catalog.Table.{Table}
@@ -26,9 +26,6 @@ AreVersionFates model number table w [] [] = Unit {0}
 AreVersionFates model number table w (v ∷ versions) (fate ∷ fates) = IsVersionFate model number table w v fate × AreVersionFates model number table w versions fates
 AreVersionFates model number table w versions fates = ⊥
 
-abbrev pub ended_version : ℕ → Version → Version
-ended_version k v = record { number = v.number; table = v.table; begins = v.begins; ends = Some k; row = v.row }
-
 -- A version that ends where it began is seen by no snapshot, and isn't kept.
 abbrev pub by_fate : ℕ → Fate → Version → List Version
 by_fate k Stays v = v ∷ []
@@ -38,12 +35,6 @@ abbrev pub ended_in : ℕ → List Version → List Fate → List Version
 ended_in k [] fates = []
 ended_in k (v ∷ versions) [] = v ∷ versions
 ended_in k (v ∷ versions) (fate ∷ fates) = by_fate k fate v ++ ended_in k versions fates
-
--- rows that begin, as versions
-abbrev pub begun_versions : ℕ → ℕ → ℕ → List VRow → List Version
-begun_versions number k table [] = []
-begun_versions number k table (row ∷ rows) =
-    record { number = number; table = table; begins = k; ends = None; row = row } ∷ begun_versions (number + 1) k table rows
 
 -- a write of the k-th commit to the table with this number
 pub record IsTableWrite (model : Expr) (k number : ℕ) (table : Table) (w : Write) (old new : Held) : Type 0 where

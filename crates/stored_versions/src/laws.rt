@@ -1,4 +1,4 @@
-ghost use Rattle.std.specs.Prelude.{◌≡◌, ◌++◌, ◌∷◌, [], ◌<◌, ◌≤◌, ℕ, Bool, List, Some, None, true, false, filter, slice_get};
+ghost use Rattle.std.specs.Prelude.{◌≡◌, ◌++◌, ◌∷◌, [], ◌<◌, ◌≤◌, ℕ, List, Some, None, true, false, slice_get};
 ghost use Rattle.std.specs.List.{AllByRecursion};
 ghost use Rattle.commit_log.specs.declared.commit.Commit.{Commit};
 ghost use Rattle.feature_expr.specs.declared.expr.Expr.{Expr};
@@ -6,12 +6,11 @@ ghost use Rattle.query_meaning.specs.Bounds.{table_column_weight};
 ghost use Rattle.row_conditions.specs.RowConditions.{columns_weight};
 ghost use Rattle.stored_versions.specs.Conflicts.{Conflict, IsConflict, conflict_of};
 ghost use Rattle.stored_versions.specs.Databases.{bounds_after, catalog_at, relation_after, sizes_of, variant_database, writes_to};
-ghost use Rattle.stored_versions.specs.Holdings.{Ascends, in_order};
 ghost use Rattle.stored_versions.specs.Logs.{all_taken, taken_from, taken_writes};
 ghost use Rattle.stored_versions.specs.Openings.{Opening, opening_rows};
 ghost use Rattle.stored_versions.specs.StoredViews.{IsStoredView};
 ghost use Rattle.stored_versions.specs.VersionWrites.{Held, IsTableWrite, Writes};
-ghost use Rattle.stored_versions.specs.Versions.{IsPlaced, Version, cleaned, newest_rows, rows_seen, seen_at};
+ghost use Rattle.version_lists.specs.Versions.{IsPlaced, Version, cleaned, newest_rows, rows_seen, seen_at};
 ghost use Rattle.vra_syntax.specs.declared.write.Write.{Write};
 ghost use Rattle.vschema.specs.Variants.{table_at};
 ghost use Rattle.vschema.specs.declared.catalog.Catalog.{Catalog};
@@ -36,14 +35,6 @@ pub fn version_laws()
     ensures newest { (applied number : ℕ) (versions : List Version) → AllByRecursion (IsPlaced applied) versions → rows_seen applied number versions ≡ newest_rows number versions }
     // A write on versions is the write on the newest rows of its table.
     ensures written { (model : Expr) (number : ℕ) (table : Table) (write : Write) (k : ℕ) (old new : Held) → IsTableWrite model k number table write old new → IsRowWrite model table write (newest_rows number old.versions) (newest_rows number new.versions) }
-{}
-
-/// Laws of the list of versions that contracts see. The call itself does nothing.
-pub fn order_laws()
-    // Its numbers ascend.
-    ensures ascends { (versions : List Version) → Ascends 0 (in_order versions) }
-    // What is taken out of it can be taken out before it is put in order.
-    ensures filtered { (p : Version → Bool) (versions : List Version) → filter p (in_order versions) ≡ in_order (filter p versions) }
 {}
 
 /// Laws of what a log makes of the tables. The call itself does nothing.

@@ -3,4 +3,4 @@
 
 mod laws;
 
-pub use laws::{conflict_laws, log_laws, order_laws, version_laws};
+pub use laws::{conflict_laws, log_laws, version_laws};

@@ -11,14 +11,13 @@ use Rattle.query_meaning.specs.Bounds.{Size, IsWithin, table_column_weight}
 use Rattle.relational_algebra.specs.Conditions.{condition_cost}
 use Rattle.write_meaning.specs.StoredTables.{stored_table}
 use Rattle.write_meaning.specs.PlainWrites.{size_after}
-use Rattle.write_meaning.specs.RowWrites.{touches, is_touched, holding, IsFate, AreFates, staying_by, staying, begun_by, inserted_row, begun, IsRowWrite}
+use Rattle.write_meaning.specs.RowWrites.{touches, is_touched, can_be_there, holding, IsFate, AreFates, staying_by, staying, begun_by, inserted_row, begun, IsRowWrite}
 use Rattle.write_meaning.specs.StoredTables.{size_of}
 use Rattle.query_meaning.specs.WriteTyping.{acts}
 use Rattle.vra_syntax.specs.declared.cond.Operand.{Operand}
 use Rattle.vra_syntax.specs.declared.write.Write.{Write}
 use Rattle.vra_syntax.specs.declared.write.Write.TheVariants as write
 use Rattle.vschema.specs.declared.catalog.Table.{Table}
-use Rattle.condition_sat.specs.Possible.{can_hold}
 use Rattle.vtable.specs.TableForm.{rows_weight}
 use Rattle.vtable.specs.declared.table.VRow.{VRow}
 use Rattle.write_meaning.specs.declared.fate.Fate.{Fate}
@@ -46,10 +45,10 @@ held_by row rows count heavy true h = one_more row rows count heavy h
 held_by row rows count heavy false h = record { rows_are = let r = h.rows_are in omega (arith, r); weight_is = let w = h.weight_is in omega (arith, w) }
 
 -- dropping rows makes none more
-held_at_most : (model : Expr) (rows : List VRow) → AreAtMost (holding model rows) (length rows) (rows_weight rows)
-held_at_most model [] = none_at_most
-held_at_most model (row ∷ rows) =
-    let h = held_by row (holding model rows) (length rows) (rows_weight rows) (can_hold model row.cond) (held_at_most model rows) in
+held_at_most : (model : Expr) (table : Table) (rows : List VRow) → AreAtMost (holding model table rows) (length rows) (rows_weight rows)
+held_at_most model table [] = none_at_most
+held_at_most model table (row ∷ rows) =
+    let h = held_by row (holding model table rows) (length rows) (rows_weight rows) (can_be_there model table row) (held_at_most model table rows) in
     record { rows_are = let r = h.rows_are in omega (arith, r); weight_is = let e = weigh_cons row rows in let w = h.weight_is in omega (arith, e, w) }
 
 -- how many rows a row may become, and what each weighs more
@@ -88,16 +87,16 @@ module _ (model : Expr) (table : Table) where
   piece_at_most (write.Insert name names rows expr) row (Ends begun) is = absurd (never (is_touched model table (write.Insert name names rows expr) row) is.0 (untouched name names rows expr row))
   piece_at_most (write.Delete name it expr) row (Ends begun) is =
       let split = is.1 in
-      let h = held_at_most model (split.rest ∷ []) in
+      let h = held_at_most model table (split.rest ∷ []) in
       let r = h.rows_are in let w = h.weight_is in let e = split.rest_is.weight in
-      subst (λ rows. AreAtMost rows 1 (1 * (weight_of row.cond + extra table (write.Delete name it expr)))) (sym (split.begun_are ∙ ap (λ xs. holding model (split.rest ∷ xs)) split.changed_are))
+      subst (λ rows. AreAtMost rows 1 (1 * (weight_of row.cond + extra table (write.Delete name it expr)))) (sym (split.begun_are ∙ ap (λ xs. holding model table (split.rest ∷ xs)) split.changed_are))
       (record { rows_are = omega (arith, r); weight_is = omega (arith, w, e) })
   piece_at_most (write.Update name items it expr) row (Ends begun) is =
       let split = is.1 in
       let one = split.changed_are in
-      let h = held_at_most model (split.rest ∷ one.0 ∷ []) in
+      let h = held_at_most model table (split.rest ∷ one.0 ∷ []) in
       let r = h.rows_are in let w = h.weight_is in let e = split.rest_is.weight in let f = one.1.weight in
-      subst (λ rows. AreAtMost rows 2 (2 * (weight_of row.cond + extra table (write.Update name items it expr)))) (sym (split.begun_are ∙ ap (λ xs. holding model (split.rest ∷ xs)) one.2))
+      subst (λ rows. AreAtMost rows 2 (2 * (weight_of row.cond + extra table (write.Update name items it expr)))) (sym (split.begun_are ∙ ap (λ xs. holding model table (split.rest ∷ xs)) one.2))
       (record { rows_are = omega (arith, r); weight_is = omega (arith, w, e, f) })
 
   -- what rows become
@@ -149,11 +148,11 @@ module _ (model : Expr) (table : Table) where
     by_form : (w : Write) → IsRowWrite model table w old new → IsWithin (size_of (stored_table table new)) (size_after w size)
     by_form (write.Insert name names rows expr) it =
         let split = split_at_most (write.Insert name names rows expr) 1 refl 0 refl old it.fates it.are_fates in
-        let held = held_at_most model (map (inserted_row table names expr) rows) in
+        let held = held_at_most model table (map (inserted_row table names expr) rows) in
         let n = length-append (staying old it.fates) (begun model table (write.Insert name names rows expr) it.fates) in
-        let n' = length-append (holding model (map (inserted_row table names expr) rows)) (flat_map begun_by it.fates) in
+        let n' = length-append (holding model table (map (inserted_row table names expr) rows)) (flat_map begun_by it.fates) in
         let v = weigh_append (staying old it.fates) (begun model table (write.Insert name names rows expr) it.fates) in
-        let v' = weigh_append (holding model (map (inserted_row table names expr) rows)) (flat_map begun_by it.fates) in
+        let v' = weigh_append (holding model table (map (inserted_row table names expr) rows)) (flat_map begun_by it.fates) in
         let l = length-map rows (inserted_row table names expr) in
         let lw = listed_weight names expr rows in
         let hr = held.rows_are in let hw = held.weight_is in

@@ -16,7 +16,7 @@ use Rattle.write_meaning.proofs.KindLaws.{HasKind}
 use Rattle.write_meaning.specs.Members.{Has}
 use Rattle.write_meaning.specs.StoredTables.{stored_column, stored_columns, stored_table}
 use Rattle.write_meaning.specs.PlainWrites.{assigned}
-use Rattle.write_meaning.specs.RowWrites.{touches, given_or, set_cells, holding, IsFate, AreFates, AreChanged, staying_by, staying, begun_by, inserted_row, inserted, begun, IsRowWrite}
+use Rattle.write_meaning.specs.RowWrites.{touches, given_or, set_cells, can_be_there, holding, IsFate, AreFates, AreChanged, staying_by, staying, begun_by, inserted_row, inserted, begun, IsRowWrite}
 use Rattle.query_meaning.specs.WriteTyping.{Assignment, assignments_of, assignment_of}
 use Rattle.vra_syntax.specs.declared.cond.Operand.{Operand}
 use Rattle.vra_syntax.specs.declared.write.Write.{Write}
@@ -26,7 +26,6 @@ use Rattle.vschema.specs.declared.catalog.Column.{Column}
 use Rattle.vschema.specs.declared.catalog.Table.{Table}
 use Rattle.vtable.specs.Answers.{column_at, fits, is_whole, IsAnswerAt}
 use Rattle.plain_relation.specs.Values.{same_kind}
-use Rattle.condition_sat.specs.Possible.{can_hold}
 use Rattle.vtable.specs.declared.table.VRow.{VRow}
 use Rattle.write_meaning.specs.declared.fate.Fate.{Fate}
 use Rattle.write_meaning.specs.declared.fate.Fate.TheVariants.{Stays, Ends}
@@ -123,9 +122,9 @@ module _ (table : Table) (c : List ℕ) where
   held_by true row rows h k = (h, k)
   held_by false row rows h k = k
 
-  good_held : (model : Expr) (rows : List VRow) → AreGood rows → AreGood (holding model rows)
+  good_held : (model : Expr) (rows : List VRow) → AreGood rows → AreGood (holding model table rows)
   good_held model [] h = tt
-  good_held model (row ∷ rows) h = held_by (can_hold model row.cond) row (holding model rows) h.0 (good_held model rows h.1)
+  good_held model (row ∷ rows) h = held_by (can_be_there model table row) row (holding model table rows) h.0 (good_held model rows h.1)
 
   and_true : (a b : Bool) → (a && b) ≡ true → (a ≡ true) × (b ≡ true)
   and_true true b h = (refl, h)
@@ -219,7 +218,7 @@ module _ (table : Table) (c : List ℕ) where
   good_after model admitted w gives old new it good =
       subst AreGood (sym it.new_are)
       (good_append (staying old it.fates) (begun model table w it.fates) (stays_good model w old it.fates it.are_fates good)
-      (good_append (holding model (inserted table w)) (flat_map begun_by it.fates) (good_held model (inserted table w) (inserted_good w gives)) (begins_good model admitted w gives old it.fates it.are_fates good)))
+      (good_append (holding model table (inserted table w)) (flat_map begun_by it.fates) (good_held model (inserted table w) (inserted_good w gives)) (begins_good model admitted w gives old it.fates it.are_fates good)))
 
 -- Well-formedness of a table, row by row.
 

@@ -1,6 +1,5 @@
 -- The features of the rows after a write are those of the rows before it, of the write and of its table's columns.
 use Rattle.std.proofs.Common.{◌≡◌, ◌∙◌, ℕ, Bool, true, false, cond, ◌||◌, List, [], ◌∷◌, ◌++◌, map, flat_map, sym, subst, rules, ◌⊎◌, inl, inr}
-use Rattle.condition_sat.specs.Possible.{can_hold}
 use Rattle.feature_expr.specs.Expressions.{mentions}
 use Rattle.feature_expr.specs.declared.expr.Expr.{Expr}
 use Rattle.row_conditions.proofs.BoolLaws.{or_cases, or_end, or_start}
@@ -11,7 +10,7 @@ use Rattle.vra_syntax.specs.declared.write.Write.TheVariants as write
 use Rattle.vschema.specs.declared.catalog.Table.{Table}
 use Rattle.vtable.specs.TableForm.{rows_mention}
 use Rattle.vtable.specs.declared.table.VRow.{VRow}
-use Rattle.write_meaning.specs.RowWrites.{AreChanged, AreFates, IsFate, IsRowWrite, begun, begun_by, holding, inserted, inserted_row, staying, staying_by, touch_mentions}
+use Rattle.write_meaning.specs.RowWrites.{AreChanged, AreFates, IsFate, IsRowWrite, begun, begun_by, can_be_there, holding, inserted, inserted_row, staying, staying_by, touch_mentions}
 use Rattle.write_meaning.specs.StoredTables.{stored_columns}
 use Rattle.write_meaning.specs.declared.fate.Fate.{Fate}
 use Rattle.write_meaning.specs.declared.fate.Fate.TheVariants.{Stays, Ends}
@@ -33,9 +32,9 @@ module _ (feature : ℕ) (known : Bool) where
   held_by true row rows h k = (h, k)
   held_by false row rows h k = k
 
-  held : (model : Expr) (rows : List VRow) → AreKnown rows → AreKnown (holding model rows)
-  held model [] h = tt
-  held model (row ∷ rows) h = held_by (can_hold model row.cond) row (holding model rows) h.0 (held model rows h.1)
+  held : (model : Expr) (table : Table) (rows : List VRow) → AreKnown rows → AreKnown (holding model table rows)
+  held model table [] h = tt
+  held model table (row ∷ rows) h = held_by (can_be_there model table row) row (holding model table rows) h.0 (held model table rows h.1)
 
   known_of : (rows : List VRow) → (rows_mention feature rows ≡ true → known ≡ true) → AreKnown rows
   known_of [] h = tt
@@ -72,7 +71,7 @@ module _ (feature : ℕ) (known : Bool) where
     begins w row (Ends rows) brings fate is =
         let split = fate.1 in
         subst AreKnown (sym split.begun_are)
-        (held model (split.rest ∷ split.changed) (made w row split.rest brings (split.rest_is.features feature) is, changed w row split.changed brings split.changed_are is))
+        (held model table (split.rest ∷ split.changed) (made w row split.rest brings (split.rest_is.features feature) is, changed w row split.changed brings split.changed_are is))
 
     stays : (row : VRow) (fate : Fate) → IsKnown row → AreKnown (staying_by fate row)
     stays row Stays is = (is, tt)
@@ -104,7 +103,7 @@ module _ (feature : ℕ) (known : Bool) where
     after w old new brings it is =
         subst AreKnown (sym it.new_are)
         (append (staying old it.fates) (begun model table w it.fates) (all_stay w old it.fates it.are_fates is)
-        (append (holding model (inserted table w)) (flat_map begun_by it.fates) (held model (inserted table w) (all_inserted w brings)) (all_begin w old it.fates brings it.are_fates is)))
+        (append (holding model table (inserted table w)) (flat_map begun_by it.fates) (held model table (inserted table w) (all_inserted w brings)) (all_begin w old it.fates brings it.are_fates is)))
 
 -- a feature of the rows after a write
 pub mentions_after : (model : Expr) (table : Table) (w : Write) (old new : List VRow) (feature : ℕ) → IsRowWrite model table w old new → rows_mention feature new ≡ true → (rows_mention feature old || touch_mentions feature table w) ≡ true

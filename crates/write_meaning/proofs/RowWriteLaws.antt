@@ -20,7 +20,7 @@ use Rattle.write_meaning.specs.Members.{SameRows}
 use Rattle.write_meaning.specs.StoredTables.{stored_column, stored_columns, stored_table}
 use Rattle.relational_algebra.specs.Operations.{cell_by}
 use Rattle.write_meaning.specs.PlainWrites.{assigned, new_row, changed_cell, changed as changed_row, after_acting, after_write}
-use Rattle.write_meaning.specs.RowWrites.{matches, touches, given_or, set_cells, AreChanged, holding, IsFate, AreFates, staying_by, staying, begun_by, inserted_row, inserted, begun, IsRowWrite}
+use Rattle.write_meaning.specs.RowWrites.{matches, touches, given_or, set_cells, AreChanged, can_be_there, holding, IsFate, AreFates, staying_by, staying, begun_by, inserted_row, inserted, begun, IsRowWrite}
 use Rattle.query_meaning.specs.WriteTyping.{Assignment, assignments_of, assignment_of, acts, write_expr}
 use Rattle.vra_syntax.specs.declared.cond.Cond.{Cond}
 use Rattle.vra_syntax.specs.declared.cond.Operand.{Operand}
@@ -30,7 +30,6 @@ use Rattle.vschema.specs.Variants.{bare_name}
 use Rattle.vschema.specs.declared.catalog.Column.{Column}
 use Rattle.vschema.specs.declared.catalog.Table.{Table}
 use Rattle.vtable.specs.Answers.{column_at, answer_at, fits, IsAnswerAt}
-use Rattle.condition_sat.specs.Possible.{can_hold}
 use Rattle.vtable.specs.declared.table.VRow.{VRow}
 use Rattle.write_meaning.specs.declared.fate.Fate.{Fate}
 use Rattle.write_meaning.specs.declared.fate.Fate.TheVariants.{Stays, Ends}
@@ -55,20 +54,25 @@ one_by : (places : List Place) (b : Bool) (row : VRow) → one_row places b row 
 one_by places true row = refl
 one_by places false row = refl
 
--- Rows whose condition can't hold are there in no admitted variant.
+-- A row that can't be there with its table is there in no admitted variant that has the table.
 
-held_one : (model : Expr) (c : List ℕ) (places : List Place) (row : VRow) (held : List VRow) → IsAdmitted model c → (b : Bool) → can_hold model row.cond ≡ b
-    → plain_rows c places (cond b (row ∷ held) held) ≡ plain_rows c places (row ∷ []) ++ plain_rows c places held
-held_one model c places row held admitted true is = rows_append c places (row ∷ []) held
-held_one model c places row held admitted false is =
-    ap (λ b. one_row places b row ++ plain_rows c places held) (sym (each_fails model (λ c. satisfies c row.cond) is c admitted))
+never_there : (table row b : Bool) → table ≡ true → b ≡ (table && row) → b ≡ false → row ≡ false
+never_there true row b there is fails = sym is ∙ fails
+never_there false row b there is fails = search rules
 
-held_rows : (model : Expr) (c : List ℕ) (places : List Place) → IsAdmitted model c → (rows : List VRow) → plain_rows c places (holding model rows) ≡ plain_rows c places rows
-held_rows model c places admitted [] = refl
-held_rows model c places admitted (row ∷ rows) =
-    held_one model c places row (holding model rows) admitted (can_hold model row.cond) refl
-    ∙ ap (λ xs. plain_rows c places (row ∷ []) ++ xs) (held_rows model c places admitted rows)
-    ∙ sym (rows_append c places (row ∷ []) rows)
+module _ (model : Expr) (table : Table) (c : List ℕ) (places : List Place) (admitted : IsAdmitted model c) (there : satisfies c table.cond ≡ true) where
+  held_one : (row : VRow) (held : List VRow) (b : Bool) → can_be_there model table row ≡ b → plain_rows c places (cond b (row ∷ held) held) ≡ plain_rows c places (row ∷ []) ++ plain_rows c places held
+  held_one row held true is = rows_append c places (row ∷ []) held
+  held_one row held false is =
+      ap (λ b. one_row places b row ++ plain_rows c places held)
+      (sym (never_there (satisfies c table.cond) (satisfies c row.cond) (satisfies c (and_of table.cond row.cond)) there (and_holds c table.cond row.cond) (each_fails model (λ c. satisfies c (and_of table.cond row.cond)) is c admitted)))
+
+  held_rows : (rows : List VRow) → plain_rows c places (holding model table rows) ≡ plain_rows c places rows
+  held_rows [] = refl
+  held_rows (row ∷ rows) =
+      held_one row (holding model table rows) (can_be_there model table row) refl
+      ∙ ap (λ xs. plain_rows c places (row ∷ []) ++ xs) (held_rows rows)
+      ∙ sym (rows_append c places (row ∷ []) rows)
 
 -- A changed row.
 
@@ -196,7 +200,7 @@ module _ (model : Expr) (table : Table) (w : Write) (c : List ℕ) (admitted : I
   piece row (Ends rows) there is fit =
       let split = is.1 in
       ap (plain_rows c places) split.begun_are
-      ∙ held_rows model c places admitted (split.rest ∷ split.changed)
+      ∙ held_rows model table c places admitted there (split.rest ∷ split.changed)
       ∙ rows_append c places (split.rest ∷ []) split.changed
       ∙ ap (λ xs. xs ++ plain_rows c places split.changed)
       (ap (λ b. one_row places b split.rest) (split.rest_is.exact c admitted there)
@@ -376,7 +380,7 @@ module _ (model : Expr) (table : Table) (w : Write) (c : List ℕ) (admitted : I
       (same_of (plain_rows c spots new) (stay ++ (add ++ begin))
       (ap (plain_rows c spots) it.new_are
       ∙ rows_append c spots (staying old it.fates) (begun model table w it.fates)
-      ∙ ap (λ xs. stay ++ xs) (rows_append c spots (holding model (inserted table w)) (flat_map begun_by it.fates) ∙ ap (λ xs. xs ++ begin) (held_rows model c spots admitted (inserted table w)))))
+      ∙ ap (λ xs. stay ++ xs) (rows_append c spots (holding model table (inserted table w)) (flat_map begun_by it.fates) ∙ ap (λ xs. xs ++ begin) (held_rows model table c spots admitted there (inserted table w)))))
       (same_on (stay ++ (add ++ begin)) ((stay ++ begin) ++ add) (made old)
       (same_swapped stay add begin)
       (same_both (stay ++ begin) (flat_map (after_plain c table w) (plain_rows c spots old)) add add

@@ -2,7 +2,7 @@
 -- other ends, and rows begin in its place: what the write leaves of it, and for an UPDATE the changed row.
 use Rattle.std.specs.Prelude.{ℕ, ◌+◌, ◌≡◌, ◌≤◌, Bool, true, false, not, ◌&&◌, ◌||◌, List, [], ◌∷◌, ◌++◌, map, filter, flat_map, Option, Some, None}
 use Rattle.condition_sat.specs.Admitted.{IsAdmitted}
-use Rattle.feature_expr.specs.Expressions.{mentions, weight_of}
+use Rattle.feature_expr.specs.Expressions.{and_of, mentions, weight_of}
 use Rattle.feature_expr.specs.Satisfaction.{satisfies}
 use Rattle.feature_expr.specs.declared.expr.Expr.{Expr}
 use Rattle.values.specs.declared.value.Value.{Value}
@@ -80,9 +80,13 @@ AreChanged model table (write.Delete name cond expr) row changed = changed ≡ [
 AreChanged model table (write.Update name items cond expr) row changed =
     (one : VRow) × IsChanged model table (write.Update name items cond expr) (map assignment_of items) row one × (changed ≡ one ∷ [])
 
--- the rows whose condition can hold
-abbrev pub holding : Expr → List VRow → List VRow
-holding model rows = filter (λ (row : VRow). can_hold model row.cond) rows
+-- whether a row is there in some admitted variant in which its table is
+abbrev pub can_be_there : Expr → Table → VRow → Bool
+can_be_there model table row = can_hold model (and_of table.cond row.cond)
+
+-- the rows that are
+abbrev pub holding : Expr → Table → List VRow → List VRow
+holding model table rows = filter (can_be_there model table) rows
 
 -- the rows that begin where a touched row ends
 pub record Splits (model : Expr) (table : Table) (w : Write) (row : VRow) (begun : List VRow) : Type 0 where
@@ -90,7 +94,7 @@ pub record Splits (model : Expr) (table : Table) (w : Write) (row : VRow) (begun
   pub rest_is : IsRest model table w row rest
   pub changed : List VRow
   pub changed_are : AreChanged model table w row changed
-  pub begun_are : begun ≡ holding model (rest ∷ changed)
+  pub begun_are : begun ≡ holding model table (rest ∷ changed)
 
 -- what becomes of a row
 abbrev pub IsFate : Expr → Table → Write → VRow → Fate → Type 0
@@ -129,7 +133,7 @@ inserted table (write.Update name items cond expr) = []
 
 -- all rows that begin, in order
 abbrev pub begun : Expr → Table → Write → List Fate → List VRow
-begun model table w fates = holding model (inserted table w) ++ flat_map begun_by fates
+begun model table w fates = holding model table (inserted table w) ++ flat_map begun_by fates
 
 -- The rows that stay, and behind them those that begin.
 pub record IsRowWrite (model : Expr) (table : Table) (w : Write) (old new : List VRow) : Type 0 where

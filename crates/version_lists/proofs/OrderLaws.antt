@@ -1,19 +1,19 @@
 -- Looking at some of the versions goes before or behind their order.
 use Rattle.std.proofs.Common.{◌≡◌, ℕ, ◌≤◌, Bool, true, false, cond, if◌then◌else◌, List, [], ◌∷◌, filter, nat_le, refl, sym, ◌∙◌, ap, arith}
 use Rattle.std.proofs.lemmas.Bool.Decides.{nat_tests}
-use Rattle.stored_versions.specs.Holdings.{put, in_order, Ascends}
-use Rattle.stored_versions.specs.Versions.{Version}
+use Rattle.version_lists.specs.Orders.{put, in_order, Ascends}
+use Rattle.version_lists.specs.Versions.{Version}
 
-yes_le : (a b : ℕ) → nat_le a b ≡ true → a ≤ b
+pub yes_le : (a b : ℕ) → nat_le a b ≡ true → a ≤ b
 yes_le a b h = grind (arith, nat_tests)
 
-no_le : (a b : ℕ) → nat_le a b ≡ false → b ≤ a
+pub no_le : (a b : ℕ) → nat_le a b ≡ false → b ≤ a
 no_le a b h = grind (arith, nat_tests)
 
-le_yes : (a b : ℕ) → a ≤ b → nat_le a b ≡ true
+pub le_yes : (a b : ℕ) → a ≤ b → nat_le a b ≡ true
 le_yes a b h = grind (arith, nat_tests)
 
-lower : (low least : ℕ) (versions : List Version) → least ≤ low → Ascends low versions → Ascends least versions
+pub lower : (low least : ℕ) (versions : List Version) → least ≤ low → Ascends low versions → Ascends least versions
 lower low least [] h k = tt
 lower low least (v ∷ versions) h k = (let a = k.0 in omega (arith, a, h), k.1)
 
@@ -50,7 +50,7 @@ module _ (p : Version → Bool) where
   front_by v other rest true h same = in_front_by v other rest h
   front_by v other rest false h same = same
 
-  in_front : (v : Version) (versions : List Version) → Ascends v.number versions → put v (filter p versions) ≡ v ∷ filter p versions
+  pub in_front : (v : Version) (versions : List Version) → Ascends v.number versions → put v (filter p versions) ≡ v ∷ filter p versions
   in_front v [] h = refl
   in_front v (other ∷ versions) h = front_by v other (filter p versions) (p other) h.0 (in_front v versions (lower other.number v.number versions h.0 h.1))
 

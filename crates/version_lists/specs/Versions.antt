@@ -41,6 +41,16 @@ is_open (Some k) = false
 abbrev pub is_newest : ℕ → Version → Bool
 is_newest table v = (v.table == table) && is_open v.ends
 
+-- a version that this commit ends
+abbrev pub ended_version : ℕ → Version → Version
+ended_version k v = record { number = v.number; table = v.table; begins = v.begins; ends = Some k; row = v.row }
+
+-- rows of a table that begin with a commit, as versions numbered from this number on
+abbrev pub begun_versions : ℕ → ℕ → ℕ → List VRow → List Version
+begun_versions number k table [] = []
+begun_versions number k table (row ∷ rows) =
+    record { number = number; table = table; begins = k; ends = None; row = row } ∷ begun_versions (number + 1) k table rows
+
 -- the numbers ascend
 abbrev pub AreNumbered : ℕ → List Version → Type 0
 AreNumbered low [] = Unit {0}
