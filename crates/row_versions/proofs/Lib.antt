@@ -1,0 +1,4 @@
+pub mod CleanLaws
+pub mod CountLaws
+pub mod HoldingLaws
+pub mod OpeningLaws

@@ -1,0 +1,4 @@
+pub mod Cleaning
+pub mod Holdings
+pub mod Openings
+pub mod Stored

@@ -1,0 +1,13 @@
+//! The rows of stored tables as versions, for the snapshots of a store.
+//!
+//! The path of a type's file is part of this crate's interface: a specification above names it.
+#![tactic(auto)]
+
+mod clean;
+mod count;
+mod ended;
+mod mark;
+mod opening;
+mod versions;
+
+pub use versions::RowVersions;

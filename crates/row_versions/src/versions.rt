@@ -1,0 +1,99 @@
+ghost use Rattle.std.specs.Prelude.{◌≡◌, length, IfOk};
+ghost use Rattle.row_versions.specs.Holdings.{IsKept};
+ghost use Rattle.row_versions.specs.Openings.{AreCounted};
+ghost use Rattle.row_versions.specs.Stored.{newest_tables, opened};
+ghost use Rattle.version_lists.specs.Versions.{cleaned};
+
+use crate::clean::drop_ended;
+use crate::count::kept;
+use crate::ended::EndedRow;
+use crate::mark::Mark;
+use crate::opening::first_marks;
+use plan_tables::Rows;
+use std::alloc::Global;
+use std::collections::VecDeque;
+use std::marker::Model;
+use values::{List, Memory};
+
+/// The rows of stored tables as versions: those that no commit has ended, which can be lent whole, and those that
+/// snapshots may still see.
+#[derive(Drop)]
+pub struct RowVersions {
+    newest: Rows,
+    marks: List<List<Mark>>,
+    ended: VecDeque<EndedRow>,
+    next: u64,
+    applied: u64,
+}
+
+impl Model for RowVersions {
+    ghost use Rattle.std.specs.Coded.{codes};
+    ghost use Rattle.feature_expr.specs.contracts.expr.Expr as e;
+    ghost use Rattle.row_versions.specs.Holdings.{IsHolding, stored};
+    ghost use Rattle.row_versions.specs.Stored.{Stored};
+
+    ghost Value = { Stored };
+
+    ghost coded = { Prim.hlevel (codes, e.the_row.coded) };
+
+    ghost view = { λ it. stored it.ended.items it.marks it.newest.tables it.next it.applied };
+
+    ghost invariant = { λ it. IsHolding it.ended.items it.marks it.newest.tables it.next it.applied };
+}
+
+#[tactic(auto, using(crate::proofs::HoldingLaws::cleaned_held, crate::proofs::HoldingLaws::cleaned_holding, crate::proofs::HoldingLaws::newest_are, crate::proofs::OpeningLaws::opening_stored, crate::proofs::OpeningLaws::opening_holding))]
+impl RowVersions {
+    /// The rows of these tables before any commit.
+    pub fn new(alloc: Global, rows: Rows) -> Result<RowVersions, Memory>
+        requires { AreCounted 0 rows.tables }
+        ensures { IfOk result (λ it. it ≡ opened rows.tables) }
+    {
+        let (marks, next) = first_marks(alloc, rows.tables.as_slice())?;
+        Ok(RowVersions {
+            newest: rows,
+            marks,
+            ended: VecDeque::new(alloc),
+            next,
+            applied: 0,
+        })
+    }
+
+    /// The tables with their newest rows.
+    pub fn newest(&self) -> &Rows
+        ensures { result.now.tables ≡ newest_tables 0 self.now.columns self.now.versions }
+    {
+        &self.newest
+    }
+
+    /// Lets go of the versions that no snapshot sees any more, where this is the oldest live one. It takes no memory, and
+    /// looks at those alone.
+    pub fn clean(&mut self, oldest: Option<u64>)
+        ensures versions { self.new.versions ≡ cleaned oldest self.old.versions }
+        ensures columns { self.new.columns ≡ self.old.columns }
+        ensures next { self.new.next ≡ self.old.next }
+        ensures applied { self.new.applied ≡ self.old.applied }
+    {
+        drop_ended(&mut self.ended, oldest);
+    }
+
+    /// How many versions there are.
+    pub fn kept(&self) -> u64
+        ensures { result ≡ length self.now.versions }
+    {
+        kept(self.ended.len(), self.newest.tables.as_slice(), self.next)
+    }
+
+    /// How many commits were applied.
+    pub fn applied(&self) -> u64
+        ensures { result ≡ self.now.applied }
+    {
+        self.applied
+    }
+
+    /// No number stands twice, and each version begins and ends with applied commits.
+    pub fn known(&self)
+        ensures { IsKept self.now }
+    {
+        let _ = &self.next;
+    }
+}
