@@ -8,6 +8,7 @@ mod count;
 mod ended;
 mod mark;
 mod opening;
+mod seen;
 mod versions;
 
 pub use versions::RowVersions;

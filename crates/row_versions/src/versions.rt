@@ -2,18 +2,20 @@ ghost use Rattle.std.specs.Prelude.{◌≡◌, length, IfOk};
 ghost use Rattle.row_versions.specs.Holdings.{IsKept};
 ghost use Rattle.row_versions.specs.Openings.{AreCounted};
 ghost use Rattle.row_versions.specs.Stored.{newest_tables, opened};
-ghost use Rattle.version_lists.specs.Versions.{cleaned};
+ghost use Rattle.version_lists.specs.Versions.{cleaned, rows_seen};
 
 use crate::clean::drop_ended;
 use crate::count::kept;
 use crate::ended::EndedRow;
 use crate::mark::Mark;
 use crate::opening::first_marks;
+use crate::seen::rows_seen;
 use plan_tables::Rows;
 use std::alloc::Global;
 use std::collections::VecDeque;
 use std::marker::Model;
 use values::{List, Memory};
+use vtable::VRow;
 
 /// The rows of stored tables as versions: those that no commit has ended, which can be lent whole, and those that
 /// snapshots may still see.
@@ -63,6 +65,17 @@ impl RowVersions {
         ensures { result.now.tables ≡ newest_tables 0 self.now.columns self.now.versions }
     {
         &self.newest
+    }
+
+    /// The rows of a table that a snapshot of so many commits sees, in the order of their versions. The rows are copied.
+    pub fn rows_at(&self, alloc: Global, seen: u64, table: u32) -> Result<List<VRow>, Memory>
+        ensures { IfOk result (λ rows. rows ≡ rows_seen seen table self.now.versions) }
+    {
+        let place = table as usize;
+        let marks = self.marks.get(place);
+        let rows = self.newest.tables.get(place);
+        let seen_rows = rows_seen(alloc, seen, table, &self.ended, marks, rows)?;
+        Ok(seen_rows)
     }
 
     /// Lets go of the versions that no snapshot sees any more, where this is the oldest live one. It takes no memory, and

@@ -61,7 +61,7 @@ swap_by v other x versions false false r apart h i j on =
     ap (put v) (behind other x versions i) ∙ behind v x (put other versions) h ∙ ap (λ xs. x ∷ xs) on
     ∙ sym (ap (put other) (behind v x versions h) ∙ behind other x (put v versions) i)
 
-swapped : (v other : Version) (versions : List Version) → v.number ≢ other.number → put v (put other versions) ≡ put other (put v versions)
+pub swapped : (v other : Version) (versions : List Version) → v.number ≢ other.number → put v (put other versions) ≡ put other (put v versions)
 swapped v other [] apart = none_by v other (nat_le v.number other.number) apart refl
 swapped v other (x ∷ versions) apart =
     swap_by v other x versions (nat_le v.number x.number) (nat_le other.number x.number) (nat_le v.number other.number) apart refl refl refl (swapped v other versions apart)
@@ -92,7 +92,7 @@ within : (low high : ℕ) (versions : List Version) → low ≤ high → AreNumb
 within low high [] h k = tt
 within low high (v ∷ versions) h k = (let a = k.0 in omega (arith, a, h), k.1)
 
-none_below : (number low : ℕ) (versions : List Version) → number < low → AreNumbered low versions → NoNumber number versions
+pub none_below : (number low : ℕ) (versions : List Version) → number < low → AreNumbered low versions → NoNumber number versions
 none_below number low [] h k = tt
 none_below number low (v ∷ versions) h k =
     let a = k.0 in
