@@ -78,8 +78,8 @@ impl RowVersions {
         Ok(seen_rows)
     }
 
-    /// Lets go of the versions that no snapshot sees any more, where this is the oldest live one. It takes no memory, and
-    /// looks at those alone.
+    /// Lets go of the versions that ended up to the oldest live snapshot; where none lives, of all that have ended. It
+    /// takes no memory, and looks at those and one more.
     pub fn clean(&mut self, oldest: Option<u64>)
         ensures versions { self.new.versions ≡ cleaned oldest self.old.versions }
         ensures columns { self.new.columns ≡ self.old.columns }

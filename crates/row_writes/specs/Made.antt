@@ -18,8 +18,8 @@ use Rattle.write_meaning.specs.RowWrites.{AreFates, begun_by, holding, set_cells
 use Rattle.write_meaning.specs.declared.fate.Fate.{Fate}
 use Rattle.write_meaning.specs.declared.fate.Fate.TheVariants.{Stays, Ends}
 
--- It holds in just those variants in which a write of this expression and condition touches the row, where no two columns
--- of one name are there.
+-- Of the variants in which the table is there it holds in just those in which a write of this expression and condition
+-- touches the row, where no two columns of one name are there.
 pub record IsTouchOn (expr : Expr) (cond : Cond) (columns : List VColumn) (row : VRow) (touch : Expr) : Type 0 where
   pub exact : (c : List ℕ) → cells_are_distinct (row_at c columns row) ≡ true → satisfies c touch ≡ (satisfies c expr && holds c cond (row_at c columns row))
   pub weight : weight_of touch ≤ weight_of expr + condition_cost cond (columns_weight columns) + 1

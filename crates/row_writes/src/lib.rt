@@ -13,5 +13,5 @@ mod written;
 pub use columns::stored_columns;
 pub use fates::row_fate;
 pub use inserted::inserted_rows;
-pub use there::can_be_there;
+pub use there::{can_be_there, present_rows};
 pub use written::write_rows;

@@ -14,7 +14,7 @@ use vra_syntax::SetItem;
 use vschema::Table;
 use vtable::VRow;
 
-/// Adds what is left of the row where it isn't touched, if that can hold.
+/// Adds what is left of the row where it isn't touched, if it can be there.
 pub fn put_rest(
     alloc: Global,
     questions: &mut Questions<'_>,
@@ -34,7 +34,7 @@ pub fn put_rest(
     Ok(())
 }
 
-/// Adds the row with the new values where it is touched, if that can hold.
+/// Adds the row with the new values where it is touched, if it can be there.
 pub fn put_changed(
     alloc: Global,
     questions: &mut Questions<'_>,

@@ -4,7 +4,7 @@ ghost use Rattle.version_lists.specs.Versions.{Version};
 
 /// Laws of the list of versions that contracts see. The call itself does nothing.
 pub fn order_laws()
-    // Its numbers ascend.
+    // No number in it is below the one in front of it.
     ensures ascends { (versions : List Version) → Ascends 0 (in_order versions) }
     // What is taken out of it can be taken out before it is put in order.
     ensures filtered { (p : Version → Bool) (versions : List Version) → filter p (in_order versions) ≡ in_order (filter p versions) }
