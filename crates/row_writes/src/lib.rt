@@ -14,4 +14,5 @@ pub use columns::stored_columns;
 pub use fates::row_fate;
 pub use inserted::inserted_rows;
 pub use there::{can_be_there, present_rows};
+pub use touch::{can_touch, touch_on};
 pub use written::write_rows;
