@@ -1,6 +1,8 @@
-//! Tests of writes on rows under conditions. It exports nothing.
+//! Tests of writes on rows under conditions, and of the numbers in their tags. It exports nothing.
 #![tactic(auto)]
 
+#[cfg(test)]
+mod count_tests;
 #[cfg(test)]
 mod given;
 #[cfg(test)]
