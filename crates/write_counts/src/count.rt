@@ -71,7 +71,7 @@ fn acting(alloc: Global, table: &Table, expr: &Expr) -> Result<Expr, Memory>
 }
 
 /// How many lists of mandatory cells there are of rows of which the condition is true in some variant.
-#[tactic(auto, using(crate::proofs::MetLaws::none_met, crate::proofs::MetLaws::met_more, crate::proofs::MetLaws::unmet_more))]
+#[tactic(auto, using(crate::proofs::MetLaws::none_met))]
 fn count_met(
     alloc: Global,
     questions: &mut Questions<'_>,
