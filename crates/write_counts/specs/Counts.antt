@@ -6,7 +6,6 @@ use Rattle.condition_sat.specs.Possible.{some_admitted}
 use Rattle.feature_expr.specs.Satisfaction.{satisfies}
 use Rattle.feature_expr.specs.declared.expr.Expr.{Expr}
 use Rattle.plain_relation.specs.Relations.{Cell, Relation, cell_of}
-use Rattle.query_meaning.specs.Bounds.{Size}
 use Rattle.query_meaning.specs.WriteTyping.{acts}
 use Rattle.values.specs.declared.value.Value.{Value}
 use Rattle.vra_syntax.specs.declared.write.Write.{Write}
@@ -14,10 +13,11 @@ use Rattle.vra_syntax.specs.declared.write.Write.TheVariants as write
 use Rattle.vschema.specs.Variants.{bare_name}
 use Rattle.vschema.specs.declared.catalog.Column.{Column}
 use Rattle.vschema.specs.declared.catalog.Table.{Table}
+use Rattle.vtable.specs.Answers.{IsAnswerAt, answer_at}
 use Rattle.vtable.specs.declared.table.VRow.{VRow}
-use Rattle.write_meaning.specs.Members.{Has}
+use Rattle.write_meaning.specs.Members.{Has, SameRows}
 use Rattle.write_meaning.specs.RowWrites.{matches}
-use Rattle.write_meaning.specs.TableViews.{IsTableView}
+use Rattle.write_meaning.specs.StoredTables.{stored_table}
 
 -- whether a column is there in every admitted variant that has the table
 abbrev pub is_mandatory : Expr → Table → Column → Bool
@@ -56,6 +56,10 @@ IsCount model table (write.Insert name names rows expr) there count =
 IsCount model table (write.Delete name cond expr) there count = IsMatchCount model table (write.Delete name cond expr) there count
 IsCount model table (write.Update name items cond expr) there count = IsMatchCount model table (write.Update name items cond expr) there count
 
--- so many are in a write's tag, where the rows under conditions are the table in each variant
+-- in each admitted variant the rows are a well-formed answer, and what the table is there
+abbrev pub AreRowsOf : Expr → Table → List VRow → (List ℕ → Relation) → Type 0
+AreRowsOf model table rows there = (c : List ℕ) → IsAdmitted model c → IsAnswerAt c (stored_table table rows) × SameRows (answer_at c (stored_table table rows)) (there c)
+
+-- so many are in a write's tag, whatever the table is of which these are the rows
 abbrev pub IsCountOver : Expr → Table → Write → List VRow → ℕ → Type 0
-IsCountOver model table w rows count = (there : List ℕ → Relation) (size : Size) → IsTableView model table rows there size → IsCount model table w there count
+IsCountOver model table w rows count = (there : List ℕ → Relation) → AreRowsOf model table rows there → IsCount model table w there count

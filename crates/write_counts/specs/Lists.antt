@@ -39,14 +39,14 @@ pub record AreOnce (all lists : List (List (Option Value))) : Type 0 where
   pub distinct : AreDistinct lists
   pub same : (cells : List (Option Value)) → Has lists cells ↔ Has all cells
 
--- It holds where the other does and a column is there. A table without one is absent, and has no rows.
-abbrev pub IsSeen : Expr → Table → Expr → Type 0
-IsSeen expr table seen = (c : List ℕ) → satisfies c seen ≡ (satisfies c expr && list_any (is_column_there c) table.columns)
+-- the expression, where the table has a column: in a variant in which it has none it is absent, and has no rows
+abbrev pub IsWithColumns : Expr → Table → Expr → Type 0
+IsWithColumns expr table narrowed = (c : List ℕ) → satisfies c narrowed ≡ (satisfies c expr && list_any (is_column_there c) table.columns)
 
--- so many distinct lists are there of rows that are met where a column is there too
+-- so many distinct lists are there of the rows that are met where the table has a column
 pub record IsMetCount (model : Expr) (table : Table) (expr : Expr) (cond : Cond) (rows : List VRow) (count : ℕ) : Type 0 where
-  pub seen : Expr
-  pub is_seen : IsSeen expr table seen
+  pub narrowed : Expr
+  pub is_narrowed : IsWithColumns expr table narrowed
   pub lists : List (List (Option Value))
-  pub once : AreOnce (met_lists model table seen cond rows) lists
+  pub once : AreOnce (met_lists model table narrowed cond rows) lists
   pub count_is : count ≡ length lists

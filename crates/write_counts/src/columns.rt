@@ -4,7 +4,7 @@ ghost use Rattle.feature_expr.specs.Expressions.{and_of, not_of};
 ghost use Rattle.feature_expr.specs.Satisfaction.{satisfies};
 ghost use Rattle.vschema.specs.Gaps.{is_column_there};
 ghost use Rattle.write_counts.specs.Counts.{is_mandatory};
-ghost use Rattle.write_counts.specs.Lists.{IsSeen};
+ghost use Rattle.write_counts.specs.Lists.{IsWithColumns};
 
 use asked_conditions::Questions;
 use feature_expr::{Expr, and, not, or};
@@ -54,14 +54,14 @@ fn missing(alloc: Global, table: &Table, column: &Column) -> Result<Expr, Memory
     Ok(missing)
 }
 
-/// The expression where one of the table's columns is there.
-pub fn seen(alloc: Global, table: &Table, expr: &Expr) -> Result<Expr, Memory>
-    ensures { IfOk result (λ it. IsSeen expr.now table.now it) }
+/// The expression, where the table has a column.
+pub fn with_columns(alloc: Global, table: &Table, expr: &Expr) -> Result<Expr, Memory>
+    ensures { IfOk result (λ it. IsWithColumns expr.now table.now it) }
 {
     let some = some_column(alloc, table.columns.as_slice())?;
     let expr = expr.copy(alloc)?;
-    let seen = and(alloc, expr, some)?;
-    Ok(seen)
+    let narrowed = and(alloc, expr, some)?;
+    Ok(narrowed)
 }
 
 fn some_column(alloc: Global, columns: &[Column]) -> Result<Expr, Memory>

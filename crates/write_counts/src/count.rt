@@ -6,7 +6,7 @@ ghost use Rattle.write_counts.specs.Counts.{IsCountOver};
 ghost use Rattle.write_counts.specs.Lists.{IsMetCount};
 ghost use Rattle.write_meaning.specs.StoredTables.{stored_columns};
 
-use crate::columns::{mandatory_columns, seen};
+use crate::columns::{mandatory_columns, with_columns};
 use crate::lists::CellLists;
 use crate::met::{is_met, marked_cells};
 use asked_conditions::Questions;
@@ -87,10 +87,10 @@ fn count_met(
     ensures counted { IfOk result (IsMetCount questions.old table.now expr.now cond.now rows.now) }
 {
     let marks = mandatory_columns(alloc, questions, table)?;
-    let seen = seen(alloc, table, expr)?;
+    let narrowed = with_columns(alloc, table, expr)?;
     let mut lists = CellLists::new(alloc);
     for row in rows {
-        if is_met(alloc, questions, table, columns, &seen, cond, row)? {
+        if is_met(alloc, questions, table, columns, &narrowed, cond, row)? {
             lists.add(marked_cells(alloc, marks.as_slice(), row.cells.as_slice())?)?;
         }
     }
