@@ -4,13 +4,12 @@ use Rattle.std.proofs.lemmas.Grind.{flat_map-append}
 use Rattle.pg_messages.specs.BackSpelling.{back_bytes}
 use Rattle.pg_messages.specs.declared.back.Back.{Back}
 use Rattle.session_poll.specs.declared.session.Session.{Session}
-use Rattle.session_poll.specs.declared.state.Transaction.TheVariants as transactions
 use Rattle.session_poll.specs.Courses.{Course, Event}
 use Rattle.session_poll.specs.Parts.{Keeps, KeepsLog}
 use Rattle.session_poll.specs.Replies.{spelled}
 use Rattle.session_poll.specs.Runs.{AllFit, HasSnapshot}
 use Rattle.session_poll.specs.Session.{state_of}
-use Rattle.session_poll.specs.State.{State}
+use Rattle.session_poll.specs.State.{State, Idle}
 
 -- what is put behind the replies of one part
 pub put_behind : (old mid new : List ℕ) (one two : List Back) → mid ≡ old ++ spelled one → new ≡ mid ++ spelled two → new ≡ old ++ spelled (one ++ two)
@@ -32,10 +31,10 @@ pub keeps_on : (old mid new : Session) → Keeps old mid → Keeps mid new → K
 keeps_on old mid new k l = record { held = l.held ∙ k.held; over = l.over ∙ k.over }
 
 -- no transaction is open any more, and nothing happened in the store
-pub log_closed : (old new : Session) (state : State) (c : Course) → state_of new ≡ state → state.transaction ≡ transactions.Idle → c.events ≡ [] → KeepsLog 0 old c new
+pub log_closed : (old new : Session) (state : State) (c : Course) → state_of new ≡ state → state.transaction ≡ Idle → c.events ≡ [] → KeepsLog 0 old c new
 log_closed old new state c s idle e has =
     (subst (AllFit 0) (sym e) tt, subst (HasSnapshot 0) (sym (ap (λ (x : State). x.transaction) s ∙ idle)) tt)
 
 -- the transaction stays, and nothing happened in the store
-pub log_kept : (old new : Session) (c : Course) → new.transaction ≡ old.transaction → c.events ≡ [] → KeepsLog 0 old c new
+pub log_kept : (old new : Session) (c : Course) → (state_of new).transaction ≡ (state_of old).transaction → c.events ≡ [] → KeepsLog 0 old c new
 log_kept old new c t e has = (subst (AllFit 0) (sym e) tt, subst (HasSnapshot 0) (sym t) has)

@@ -12,8 +12,6 @@ use Rattle.session_poll.specs.declared.refusal.Refusal.{Refusal}
 use Rattle.session_poll.specs.declared.refusal.Refusal.TheVariants as refusal
 use Rattle.session_poll.specs.declared.session.Session.{Session}
 use Rattle.session_poll.specs.declared.state.Phase.TheVariants as phases
-use Rattle.session_poll.specs.declared.state.Transaction.{Transaction}
-use Rattle.session_poll.specs.declared.state.Transaction.TheVariants as transactions
 use Rattle.session_poll.specs.Answers.{IsAnswer}
 use Rattle.session_poll.specs.AnswerMessages.{answer_messages, answer_too_long, select_complete}
 use Rattle.session_poll.specs.Begins.{Begins, view_of}
@@ -24,7 +22,7 @@ use Rattle.session_poll.specs.Replies.{spelled, empty_query}
 use Rattle.session_poll.specs.Runs.{AllFit, HasSnapshot}
 use Rattle.session_poll.specs.Sends.{Sends}
 use Rattle.session_poll.specs.Session.{state_of, waiting_of}
-use Rattle.session_poll.specs.State.{State, in_phase}
+use Rattle.session_poll.specs.State.{State, Transaction, Idle, Implicit, in_phase}
 use Rattle.session_poll.specs.Typings.{HasType, IsUnanswered, refusal_for}
 use Rattle.vschema.specs.declared.catalog.Catalog.{Catalog}
 use Rattle.session_poll.proofs.QueryLaws.{then_goes, then_stops}
@@ -33,11 +31,11 @@ use Rattle.vra_syntax.specs.declared.statement.Statement.{Statement}
 use Rattle.vtable.specs.declared.table.VTable.{VTable}
 
 view_fits : (transaction : Transaction) → HasSnapshot 0 transaction → AllFit 0 (view_of transaction ++ [])
-view_fits transactions.Idle has = tt
-view_fits (transactions.Implicit snapshot) has = (has, tt)
+view_fits Idle has = tt
+view_fits (Implicit snapshot) has = (has, tt)
 
 -- a part that was refused, or sent nothing, and left all as it was
-stopped : (part : State → Course → Type 0) (old new : Session) (events : List Event) (why : Refusal) → part (state_of old) (stops events why (state_of old)) → (HasSnapshot 0 old.transaction → AllFit 0 events) → waiting_of new ≡ waiting_of old → KeepsState old new → new.output.is_ready ≡ true → Done part old (Some why) new
+stopped : (part : State → Course → Type 0) (old new : Session) (events : List Event) (why : Refusal) → part (state_of old) (stops events why (state_of old)) → (HasSnapshot 0 (state_of old).transaction → AllFit 0 events) → waiting_of new ≡ waiting_of old → KeepsState old new → new.output.is_ready ≡ true → Done part old (Some why) new
 stopped part old new events why is fit put keeps room = record {
   course = stops events why (state_of old);
   part_is = is;
@@ -109,7 +107,7 @@ shows opening query columns answer old is short = record {
 pub shown : (opening : Opening) (query : Query) (columns : List TypedColumn) (plan : Plan) (answer : VTable) (message : Back) (old new : Session) → HasType opening.catalog query columns plan → IsAnswer opening query columns answer → message ≡ select_complete (length answer.rows) → answer_too_long opening.catalog.features columns answer ≡ None → waiting_of new ≡ waiting_of old ++ spelled (answer_messages opening.catalog.features columns answer) → KeepsState old new → new.output.is_ready ≡ true → Done (TypesOrMemory opening query message) old None new
 shown opening query columns plan answer message old new typed is follows short put keeps room =
     subst (λ m. Done (TypesOrMemory opening query m) old None new) (sym follows) (record {
-      course = goes (view_of old.transaction ++ []) (answer_messages opening.catalog.features columns answer) (state_of old);
+      course = goes (view_of (state_of old).transaction ++ []) (answer_messages opening.catalog.features columns answer) (state_of old);
       part_is = inl (record {
         typing = Ok columns;
         is_typing = record { plan = plan; has_type = typed };
@@ -119,7 +117,7 @@ shown opening query columns plan answer message old new typed is follows short p
       state = keeps.state;
       put = put;
       keeps = keeps.input;
-      fits = λ has. (view_fits old.transaction has, subst (HasSnapshot 0) (sym (ap (λ (x : State). x.transaction) keeps.state)) has);
+      fits = λ has. (view_fits (state_of old).transaction has, subst (HasSnapshot 0) (sym (ap (λ (x : State). x.transaction) keeps.state)) has);
       room = room;
     })
 
@@ -147,13 +145,13 @@ shows_long opening query columns answer why old is long = record {
 long_shown : (opening : Opening) (query : Query) (columns : List TypedColumn) (plan : Plan) (answer : VTable) (why : Refusal) (old new : Session) → HasType opening.catalog query columns plan → IsAnswer opening query columns answer → answer_too_long opening.catalog.features columns answer ≡ Some why → waiting_of new ≡ waiting_of old → KeepsState old new → new.output.is_ready ≡ true → Stopped (TypesOrMemory opening query) old why new
 long_shown opening query columns plan answer why old new typed is long put keeps room = record {
   message = select_complete (length answer.rows);
-  done = stopped (TypesOrMemory opening query (select_complete (length answer.rows))) old new (view_of old.transaction ++ []) why
+  done = stopped (TypesOrMemory opening query (select_complete (length answer.rows))) old new (view_of (state_of old).transaction ++ []) why
       (inl (record {
         typing = Ok columns;
         is_typing = record { plan = plan; has_type = typed };
         runs = shows_long opening query columns answer why (state_of old) is long;
       }))
-      (view_fits old.transaction) put keeps room;
+      (view_fits (state_of old).transaction) put keeps room;
 }
 
 pub too_long_shown : (opening : Opening) (query : Query) (columns : List TypedColumn) (plan : Plan) (answer : VTable) (why : Refusal) (old new : Session) → HasType opening.catalog query columns plan → IsAnswer opening query columns answer → Sends (answer_too_long opening.catalog.features columns answer) (Err why) → waiting_of new ≡ waiting_of old → KeepsState old new → new.output.is_ready ≡ true → Stopped (TypesOrMemory opening query) old why new

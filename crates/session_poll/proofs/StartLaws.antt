@@ -17,12 +17,12 @@ use Rattle.session_poll.proofs.CourseLaws.{log_kept}
 use Rattle.session_poll.proofs.FixedLaws.{out_of_memory_is}
 use Rattle.session_poll.proofs.QueryLaws.{takes_as}
 
-transaction_same : (old new : Session) (state : State) → state_of new ≡ state → state.transaction ≡ old.transaction → new.transaction ≡ old.transaction
+transaction_same : (old new : Session) (state : State) → state_of new ≡ state → state.transaction ≡ (state_of old).transaction → (state_of new).transaction ≡ (state_of old).transaction
 transaction_same old new state s t = ap (λ (x : State). x.transaction) s ∙ t
 
-pub welcomed : (opening : Opening) (old new : Session) → waiting_of new ≡ waiting_of old ++ spelled (welcome opening (status_of old.transaction)) → state_of new ≡ in_phase phases.Ready (state_of old) → Keeps old new → Takes (Welcomes opening) old new
+pub welcomed : (opening : Opening) (old new : Session) → waiting_of new ≡ waiting_of old ++ spelled (welcome opening (status_of (state_of old).transaction)) → state_of new ≡ in_phase phases.Ready (state_of old) → Keeps old new → Takes (Welcomes opening) old new
 welcomed opening old new put state keeps = record {
-  course = goes [] (welcome opening (status_of old.transaction)) (in_phase phases.Ready (state_of old));
+  course = goes [] (welcome opening (status_of (state_of old).transaction)) (in_phase phases.Ready (state_of old));
   rule_is = inl refl;
   state = state;
   put = put;

@@ -10,7 +10,7 @@ use Rattle.session_poll.specs.Packets.{IsStartupMessage, IsQuery, IsReadAs}
 use Rattle.session_poll.specs.Errors.{Tells}
 use Rattle.session_poll.specs.Replies.{spelled, out_of_memory, ready_for_query}
 use Rattle.session_poll.specs.Runs.{AllFit, Did, HasSnapshot}
-use Rattle.session_poll.specs.Session.{state_of, held_of, waiting_of, is_over}
+use Rattle.session_poll.specs.Session.{state_of, held_of, owed_of, is_over}
 use Rattle.session_poll.specs.Standing.{works, IsFull}
 use Rattle.session_poll.specs.State.{State, in_phase, between, ended}
 use Rattle.session_poll.specs.Steps.{Step}
@@ -28,7 +28,7 @@ pub record KeepsState (old new : Session) : Type 0 where
 -- nothing that a client sees has changed
 pub record Same (old new : Session) : Type 0 where
   pub state : state_of new ≡ state_of old
-  pub waiting : waiting_of new ≡ waiting_of old
+  pub waiting : owed_of new ≡ owed_of old
   pub input : Keeps old new
 
 -- the first bytes that are held are dropped
@@ -75,7 +75,7 @@ pub record IsEnded (old new : Session) : Type 0 where
 
 -- where the transaction before it has one, so have the events and the transaction after it
 abbrev pub KeepsLog : ℕ → Session → Course → Session → Type 0
-KeepsLog log old course new = HasSnapshot log old.transaction → AllFit log course.events × HasSnapshot log new.transaction
+KeepsLog log old course new = HasSnapshot log (state_of old).transaction → AllFit log course.events × HasSnapshot log (state_of new).transaction
 
 -- A part of a rule was run, with this course. Room for a reply of fixed bytes is left.
 pub record Done (part : State → Course → Type 0) (old : Session) (refused : Option Refusal) (new : Session) : Type 0 where
@@ -83,7 +83,7 @@ pub record Done (part : State → Course → Type 0) (old : Session) (refused : 
   pub part_is : part (state_of old) course
   pub refused_is : course.refused ≡ refused
   pub state : state_of new ≡ course.after
-  pub put : waiting_of new ≡ waiting_of old ++ spelled course.replies
+  pub put : owed_of new ≡ owed_of old ++ spelled course.replies
   pub keeps : Keeps old new
   pub fits : KeepsLog 0 old course new
   pub room : new.output.is_ready ≡ true
@@ -93,7 +93,7 @@ pub record Takes (rule : State → Course → Type 0) (old new : Session) : Type
   pub course : Course
   pub rule_is : rule (state_of old) course
   pub state : state_of new ≡ course.after
-  pub put : waiting_of new ≡ waiting_of old ++ spelled course.replies
+  pub put : owed_of new ≡ owed_of old ++ spelled course.replies
   pub keeps : Keeps old new
   pub fits : KeepsLog 0 old course new
 
@@ -101,7 +101,7 @@ pub record Takes (rule : State → Course → Type 0) (old new : Session) : Type
 pub record Told (names : List (List ℕ)) (why : Refusal) (old new : Session) : Type 0 where
   pub message : Back
   pub told : Tells names why message
-  pub put : waiting_of new ≡ waiting_of old ++ spelled (message ∷ ready_for_query (ready (state_of old)) ∷ [])
+  pub put : owed_of new ≡ owed_of old ++ spelled (message ∷ ready_for_query (ready (state_of old)) ∷ [])
   pub keeps : KeepsState old new
 
 -- the state after it too
@@ -109,12 +109,12 @@ pub record Failed (names : List (List ℕ)) (why : Refusal) (old new : Session) 
   pub message : Back
   pub told : Tells names why message
   pub state : state_of new ≡ ready (state_of old)
-  pub put : waiting_of new ≡ waiting_of old ++ spelled (message ∷ ready_for_query (ready (state_of old)) ∷ [])
+  pub put : owed_of new ≡ owed_of old ++ spelled (message ∷ ready_for_query (ready (state_of old)) ∷ [])
   pub keeps : Keeps old new
 
 -- the end of a Query was told, or want of memory
 pub record ToldEnd (complete : Back) (old new : Session) : Type 0 where
-  pub put : (waiting_of new ≡ waiting_of old ++ spelled (complete ∷ ready_for_query (ready (state_of old)) ∷ [])) ⊎ (waiting_of new ≡ waiting_of old ++ spelled (out_of_memory ∷ ready_for_query (ready (state_of old)) ∷ []))
+  pub put : (owed_of new ≡ owed_of old ++ spelled (complete ∷ ready_for_query (ready (state_of old)) ∷ [])) ⊎ (owed_of new ≡ owed_of old ++ spelled (out_of_memory ∷ ready_for_query (ready (state_of old)) ∷ []))
   pub keeps : KeepsState old new
 
 -- no room was there for a reply of fixed bytes, no memory was found for it, and nothing was done
@@ -130,7 +130,7 @@ pub record Moved (opening : Opening) (old new : Session) : Type 0 where
   pub read_as : IsReadAs old.phase did.input did.bytes
   pub held : held_of old ≡ did.bytes ++ held_of new
   pub state : state_of new ≡ did.course.after
-  pub put : waiting_of new ≡ waiting_of old ++ spelled did.course.replies
+  pub put : owed_of new ≡ owed_of old ++ spelled did.course.replies
   pub over : is_over new ≡ is_over old
   pub fits : KeepsLog 0 old did.course new
   pub worked : works old.phase (held_of old) ≡ true

@@ -2,13 +2,11 @@
 use Rattle.std.specs.Prelude.{◌≡◌, ℕ, ◌≤◌, List, [], ◌∷◌, ◌++◌}
 use Rattle.session_poll.specs.declared.opening.Opening.{Opening}
 use Rattle.session_poll.specs.declared.session.Session.{Session}
-use Rattle.session_poll.specs.declared.state.Transaction.{Transaction}
-use Rattle.session_poll.specs.declared.state.Transaction.TheVariants as transactions
 use Rattle.session_poll.specs.Courses.{Course, Event, Begun, Viewed, Input}
 use Rattle.session_poll.specs.Packets.{IsReadAs}
 use Rattle.session_poll.specs.Replies.{spelled}
-use Rattle.session_poll.specs.Session.{state_of, held_of, waiting_of}
-use Rattle.session_poll.specs.State.{State, opening_state}
+use Rattle.session_poll.specs.Session.{state_of, held_of, owed_of}
+use Rattle.session_poll.specs.State.{State, Transaction, Idle, Implicit, opening_state}
 use Rattle.session_poll.specs.Steps.{Step}
 
 -- a step that was taken: its input, the bytes of that, and its course
@@ -51,8 +49,8 @@ AllFit log (event ∷ events) = Fits log event × AllFit log events
 
 -- the snapshot of an open transaction is one of a log of so many commits
 abbrev pub HasSnapshot : ℕ → Transaction → Type 0
-HasSnapshot log transactions.Idle = Unit {0}
-HasSnapshot log (transactions.Implicit snapshot) = snapshot ≤ log
+HasSnapshot log Idle = Unit {0}
+HasSnapshot log (Implicit snapshot) = snapshot ≤ log
 
 abbrev pub IsRun : Opening → List Did → Type 0
 IsRun opening run = IsRunFrom opening opening_state run
@@ -61,11 +59,11 @@ abbrev pub end_of : List Did → State
 end_of run = end_from opening_state run
 
 -- A session that was fed these bytes, and of whose output these were taken, stands at the end of this run: what the run
--- took and what is held make up what was fed, and its replies are what was taken and what waits. The log is empty.
+-- took and what is held make up what was fed, and its replies are what was taken and what is owed. The log is empty.
 pub record IsAt (opening : Opening) (fed taken : List ℕ) (run : List Did) (session : Session) : Type 0 where
   pub is_run : IsRun opening run
   pub state : state_of session ≡ end_of run
   pub input : fed ≡ bytes_read run ++ held_of session
-  pub output : replied run ≡ taken ++ waiting_of session
+  pub output : replied run ≡ taken ++ owed_of session
   pub fit : AllFit 0 (events_of run)
-  pub snapshot : HasSnapshot 0 session.transaction
+  pub snapshot : HasSnapshot 0 (state_of session).transaction

@@ -9,7 +9,7 @@ use Rattle.session_poll.specs.declared.session.Session.{Session}
 use Rattle.session_poll.specs.declared.state.Phase.{Phase}
 use Rattle.session_poll.specs.declared.state.Phase.TheVariants as phases
 use Rattle.session_poll.specs.Output.{is_empty}
-use Rattle.session_poll.specs.Session.{state_of, held_of, waiting_of, is_over}
+use Rattle.session_poll.specs.Session.{state_of, held_of, owed_of, waiting_of, is_over}
 
 -- whether work waits: a whole packet or a bad one, or a Query that isn't finished
 abbrev pub works : Phase → List ℕ → Bool
@@ -33,7 +33,7 @@ polled_as false false true = polled.NeedInput
 abbrev pub standing_of : Session → Polled
 standing_of session =
     let work = works (state_of session).phase (held_of session) in
-    polled_as work (is_ended (state_of session).phase || is_over session && not work) (is_empty (waiting_of session))
+    polled_as work (is_ended (state_of session).phase || is_over session && not work) (is_empty (owed_of session))
 
 -- behind what waits there is no room for a reply of fixed bytes
 abbrev pub IsFull : Session → Type 0

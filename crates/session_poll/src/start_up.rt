@@ -6,7 +6,7 @@ ghost use Rattle.std.specs.Option.{option_map};
 ghost use Rattle.session_poll.specs.StartUps.{is_taken, is_refused_name, is_not_empty, value_of, value_in, later_or, with_commas, piece, fixed_parameters, welcome, StartsUp, Welcomes};
 ghost use Rattle.session_poll.specs.Parts.{Takes, KeepsState};
 ghost use Rattle.session_poll.specs.Replies.{spelled};
-ghost use Rattle.session_poll.specs.State.{status_of};
+ghost use Rattle.session_poll.specs.State.{status_of, transaction_of};
 ghost use Rattle.session_poll.specs.StartUps as rule;
 ghost use Rattle.session_poll.specs.Steps.{RefusesStart};
 
@@ -45,7 +45,7 @@ impl Session {
 
     fn put_welcome(&mut self, opening: &Opening) -> Result<(), Memory>
         requires { self.old.output.is_ready ≡ true }
-        ensures ok { OnOk result (self.new.output.bytes ≡ self.old.output.bytes ++ spelled (rule.welcome opening.now (status_of self.old.transaction))) }
+        ensures ok { OnOk result (self.new.output.bytes ≡ self.old.output.bytes ++ spelled (rule.welcome opening.now (status_of (transaction_of self.old.transaction)))) }
         ensures err { OnErr result (self.new.output.bytes ≡ self.old.output.bytes) }
         ensures ready { self.new.output.is_ready ≡ true }
         ensures state { KeepsState self.old self.new }

@@ -1,5 +1,5 @@
 ghost use Rattle.std.specs.Prelude.{◌≡◌};
-ghost use Rattle.session_poll.specs.State.{status_of};
+ghost use Rattle.session_poll.specs.State.{status_of, transaction_of};
 
 use crate::queries::Left;
 use pg_messages::{Back, Status};
@@ -32,7 +32,7 @@ pub enum Transaction {
 impl Transaction {
     /// What a client is told of it behind a message.
     pub fn status(self) -> Status
-        ensures { result ≡ status_of self }
+        ensures { result ≡ status_of (transaction_of self) }
     {
         match self {
             Transaction::Idle | Transaction::Implicit(_) => Status::Idle,
