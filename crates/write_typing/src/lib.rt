@@ -9,4 +9,4 @@ mod operands;
 mod row_values;
 mod typed_write;
 
-pub use typed_write::{TypedWrite, type_write};
+pub use typed_write::{TypedWrite, check_write, type_write};

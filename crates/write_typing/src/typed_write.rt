@@ -51,8 +51,9 @@ pub fn type_write(
     }
 }
 
+/// Types a write that is lent, as `type_write` does.
 #[tactic(auto, using(crate::proofs::ActingLaws::well_typed, crate::proofs::ActingLaws::table_refused))]
-fn check_write(
+pub fn check_write(
     alloc: Global,
     questions: &mut Questions<'_>,
     tables: &TableNames<'_>,

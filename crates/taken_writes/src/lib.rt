@@ -1,0 +1,8 @@
+//! Which writes of a log count.
+#![tactic(auto)]
+
+mod below;
+mod fit;
+mod taken;
+
+pub use taken::is_taken;
