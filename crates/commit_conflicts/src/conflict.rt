@@ -15,8 +15,8 @@ pub struct TableConflict<'a> {
 }
 
 /// The first conflict of writes over a snapshot of so many commits with the commits that a keeper has seen: the least
-/// place, and there the first table in the order of the writes. It takes no memory, and as long as the commits past the
-/// snapshot have writes, times these writes.
+/// place, and there the first table in the order of the writes. It takes no memory. Each write of each commit past the
+/// snapshot is compared with each of these.
 #[tactic(auto, using(crate::proofs::PlaceLaws::one_passed, crate::proofs::PlaceLaws::one_found, crate::proofs::PlaceLaws::none_behind))]
 pub fn first_conflict<'a, K: Keeper>(
     keeper: &K,
