@@ -1,0 +1,2 @@
+pub mod NewestLaws
+pub mod SeenLaws
