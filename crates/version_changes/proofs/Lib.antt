@@ -1,2 +1,4 @@
 pub mod NewestLaws
+pub mod NumberLaws
+pub mod OrderLaws
 pub mod SeenLaws
