@@ -1,3 +1,4 @@
+pub mod BlockLaws
 pub mod NewestLaws
 pub mod NumberLaws
 pub mod OrderLaws

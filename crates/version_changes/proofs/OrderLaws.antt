@@ -116,25 +116,3 @@ ends_in_order low table k place ends [] h = refl
 ends_in_order low table k place ends (v ∷ versions) h =
     let rest = numbered_behind low v (filter (is_newest table) versions) (is_newest table v) h in
     order_by table k place ends v versions (is_newest table v) refl rest.0 (λ place ends. ends_in_order 0 table k place ends versions rest.1)
-
--- What has greater numbers stays behind.
-
-le_yes : (m n high : ℕ) → m < high → high ≤ n → nat_le m n ≡ true
-le_yes m n high h k = grind (arith, nat_tests)
-
-put_before : (high : ℕ) (v : Version) (others : List Version) → v.number < high → AreNumbered high others → put v others ≡ v ∷ others
-put_before high v [] h k = refl
-put_before high v (x ∷ others) h k = first v x others (le_yes v.number x.number high h k.0)
-
-append_by : (v x : Version) (versions with others : List Version) (b : Bool) → put v (versions ++ others) ≡ with ++ others
-    → (if b then v ∷ x ∷ (versions ++ others) else x ∷ put v (versions ++ others)) ≡ (if b then v ∷ x ∷ versions else x ∷ with) ++ others
-append_by v x versions with others true on = refl
-append_by v x versions with others false on = ap (λ xs. x ∷ xs) on
-
-put_append : (high : ℕ) (v : Version) (versions others : List Version) → v.number < high → AreNumbered high others → put v (versions ++ others) ≡ put v versions ++ others
-put_append high v [] others h k = put_before high v others h k
-put_append high v (x ∷ versions) others h k = append_by v x versions (put v versions) others (nat_le v.number x.number) (put_append high v versions others h k)
-
-pub order_behind : (high : ℕ) (versions others : List Version) → AreLower high versions → AreNumbered high others → in_order (versions ++ others) ≡ in_order versions ++ others
-order_behind high [] others h k = already high others k
-order_behind high (v ∷ versions) others h k = ap (put v) (order_behind high versions others h.1 k) ∙ put_append high v (in_order versions) others h.0 k
