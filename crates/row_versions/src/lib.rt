@@ -7,7 +7,9 @@ mod clean;
 mod count;
 mod ended;
 mod mark;
+mod newest;
 mod opening;
+mod part;
 mod seen;
 mod versions;
 
