@@ -1,5 +1,6 @@
 -- Rows are parted one after the other.
 use Rattle.std.proofs.Common.{◌≡◌, ℕ, suc, ◌+◌, ◌<◌, ◌≤◌, ◌==◌, Bool, true, false, true≢false, if◌then◌else◌, List, [], ◌∷◌, ◌++◌, length, refl, sym, ◌∙◌, ap, ap₂, subst, append_assoc, append-nil, arith}
+use Rattle.std.proofs.lemmas.Bool.Decides.{nat_tests}
 use Rattle.std.proofs.lemmas.List.{length-append}
 use Rattle.row_versions.specs.Marks.{end_row, is_end, marks_without, rows_ended}
 use Rattle.row_versions.specs.declared.ended.EndedRow.{EndedRow}
@@ -108,3 +109,55 @@ parted_next k table place count ends left old_rows row rows old_marks mark marks
     (kept_new_is ∙ ap (λ b. kept ++ (if b then [] else row ∷ [])) here_is)
     (marks_new_is ∙ ap (λ b. kept_marks ++ (if b then [] else mark ∷ [])) here_is)
     (ended_new_is ∙ ap (λ b. ended ++ (if b then end_row k table mark row ∷ [] else [])) here_is))
+
+-- Where none ends, all stay.
+
+none_empty : (ends : List ℕ) → (length ends == 0) ≡ true → ends ≡ []
+none_empty [] h = refl
+none_empty (e ∷ ends) h = absurd (true≢false (sym h ∙ more (length ends))) where
+  more : (n : ℕ) → (suc n == 0) ≡ false
+  more n = grind (arith, nat_tests)
+
+marks_all : (place : ℕ) (marks : List Mark) → marks_without place [] marks ≡ marks
+marks_all place [] = refl
+marks_all place (mark ∷ marks) = ap (λ xs. mark ∷ xs) (marks_all (place + 1) marks)
+
+ended_none : (k table place : ℕ) (marks : List Mark) (rows : List VRow) → rows_ended k table place [] marks rows ≡ []
+ended_none k table place [] rows = refl
+ended_none k table place (mark ∷ marks) [] = refl
+ended_none k table place (mark ∷ marks) (row ∷ rows) = ended_none k table (place + 1) marks rows
+
+pub rows_stay : (ends : List ℕ) (rows : List VRow) → (length ends == 0) ≡ true → rows ≡ rows_without 0 ends rows
+rows_stay ends rows h = sym (ap (λ es. rows_without 0 es rows) (none_empty ends h) ∙ none_without 0 rows)
+
+pub marks_stay : (ends : List ℕ) (marks : List Mark) → (length ends == 0) ≡ true → marks ≡ marks_without 0 ends marks
+marks_stay ends marks h = sym (ap (λ es. marks_without 0 es marks) (none_empty ends h) ∙ marks_all 0 marks)
+
+pub ended_stay : (k table : ℕ) (ends : List ℕ) (marks : List Mark) (rows : List VRow) (ended : List EndedRow) → (length ends == 0) ≡ true → ended ≡ ended ++ rows_ended k table 0 ends marks rows
+ended_stay k table ends marks rows ended h = sym (ap (λ es. ended ++ rows_ended k table 0 es marks rows) (none_empty ends h) ∙ ap (λ xs. ended ++ xs) (ended_none k table 0 marks rows) ∙ append-nil ended)
+
+-- as many marks as rows stay, and no more than there were
+
+same_by : (one : List Mark) (other : List VRow) (mark : Mark) (row : VRow) (b : Bool) → length one ≡ length other → length (if b then one else mark ∷ one) ≡ length (if b then other else row ∷ other)
+same_by one other mark row true h = h
+same_by one other mark row false h = omega (arith, h)
+
+again_by : (other : List VRow) (row : VRow) (b : Bool) → (if b then other else row ∷ other) ≡ (if b then [] else row ∷ []) ++ other
+again_by other row true = refl
+again_by other row false = refl
+
+pub still_marked : (place : ℕ) (ends : List ℕ) (marks : List Mark) (rows : List VRow) → length marks ≡ length rows → length (marks_without place ends marks) ≡ length (rows_without place ends rows)
+still_marked place ends [] [] h = refl
+still_marked place ends [] (row ∷ rows) h = let never : ⊥ = omega (arith, h) in absurd never
+still_marked place ends (mark ∷ marks) [] h = let never : ⊥ = omega (arith, h) in absurd never
+still_marked place ends (mark ∷ marks) (row ∷ rows) h =
+    same_by (marks_without (place + 1) (ends_behind place ends) marks) (rows_without (place + 1) (ends_behind place ends) rows) mark row (is_end place ends) (still_marked (place + 1) (ends_behind place ends) marks rows (omega (arith, h)))
+    ∙ ap length (again_by (rows_without (place + 1) (ends_behind place ends) rows) row (is_end place ends) ∙ next_row place ends row rows)
+
+pub fewer : (place : ℕ) (ends : List ℕ) (rows : List VRow) → length (rows_without place ends rows) ≤ length rows
+fewer place ends [] = omega arith
+fewer place ends (row ∷ rows) =
+    let is = ap length (sym (next_row place ends row rows)) ∙ length-append (if is_end place ends then [] else row ∷ []) (rows_without (place + 1) (ends_behind place ends) rows) in
+    let one = few_by row (is_end place ends) in
+    let rest = fewer (place + 1) (ends_behind place ends) rows in
+    omega (arith, is, one, rest)

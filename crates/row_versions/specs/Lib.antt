@@ -6,3 +6,4 @@ pub mod Openings
 pub mod Room
 pub mod Seeing
 pub mod Stored
+pub mod Waiting

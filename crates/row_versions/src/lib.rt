@@ -6,8 +6,10 @@
 mod clean;
 mod count;
 mod ended;
+mod held;
 mod mark;
 mod newest;
+mod opened;
 mod opening;
 mod part;
 mod seen;
