@@ -118,25 +118,25 @@ and_false : (a : Bool) → (a && false) ≡ false
 and_false true = refl
 and_false false = refl
 
-ended_none : (number : ℕ) (ended : List EndedRow) → filter (is_newest number) (map ended_row ended) ≡ []
+pub ended_none : (number : ℕ) (ended : List EndedRow) → filter (is_newest number) (map ended_row ended) ≡ []
 ended_none number [] = refl
 ended_none number (e ∷ ended) =
     ap (λ b. cond b (ended_row e ∷ filter (is_newest number) (map ended_row ended)) (filter (is_newest number) (map ended_row ended))) (and_false (e.table == number))
     ∙ ended_none number ended
 
-here_all : (number : ℕ) (marks : List Mark) (rows : List VRow) → filter (is_newest number) (newest_of number marks rows) ≡ newest_of number marks rows
+pub here_all : (number : ℕ) (marks : List Mark) (rows : List VRow) → filter (is_newest number) (newest_of number marks rows) ≡ newest_of number marks rows
 here_all number [] rows = refl
 here_all number (mark ∷ marks) [] = refl
 here_all number (mark ∷ marks) (row ∷ rows) =
     ap₂ (λ b xs. cond (b && true) (newest_row number mark row ∷ xs) xs) (eq_self number) (here_all number marks rows)
 
-there_none : (number table : ℕ) (marks : List Mark) (rows : List VRow) → (table == number) ≡ false → filter (is_newest number) (newest_of table marks rows) ≡ []
+pub there_none : (number table : ℕ) (marks : List Mark) (rows : List VRow) → (table == number) ≡ false → filter (is_newest number) (newest_of table marks rows) ≡ []
 there_none number table [] rows h = refl
 there_none number table (mark ∷ marks) [] h = refl
 there_none number table (mark ∷ marks) (row ∷ rows) h =
     ap₂ (λ b xs. cond (b && true) (newest_row table mark row ∷ xs) xs) h (there_none number table marks rows h)
 
-later_none : (number first : ℕ) (marks : List (List Mark)) (tables : List TableRows) → number < first → AreTables first marks tables → filter (is_newest number) (all_newest marks tables) ≡ []
+pub later_none : (number first : ℕ) (marks : List (List Mark)) (tables : List TableRows) → number < first → AreTables first marks tables → filter (is_newest number) (all_newest marks tables) ≡ []
 later_none number first [] tables h are = refl
 later_none number first (marks ∷ others) [] h are = refl
 later_none number first (marks ∷ others) (table ∷ tables) h are =

@@ -1,3 +1,5 @@
+pub mod BlockedLaws
+pub mod ChangingLaws
 pub mod CleanLaws
 pub mod CountLaws
 pub mod HoldingLaws
@@ -5,3 +7,4 @@ pub mod OpeningLaws
 pub mod PartLaws
 pub mod RoomLaws
 pub mod SeeingLaws
+pub mod TakingLaws

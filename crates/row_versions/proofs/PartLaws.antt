@@ -39,7 +39,7 @@ left_by : (e : ℕ) (ends : List ℕ) (one : EndedRow) (b : Bool) → length (if
 left_by e ends one true = omega arith
 left_by e ends one false = omega arith
 
-left : (place : ℕ) (ends : List ℕ) (one : EndedRow) → length (if is_end place ends then one ∷ [] else []) + length (ends_behind place ends) ≡ length ends
+pub left : (place : ℕ) (ends : List ℕ) (one : EndedRow) → length (if is_end place ends then one ∷ [] else []) + length (ends_behind place ends) ≡ length ends
 left place [] one = refl
 left place (e ∷ ends) one = left_by e ends one (e == place)
 

@@ -6,10 +6,14 @@ use Rattle.table_changes.specs.declared.change.TableChange.{TableChange}
 use Rattle.version_changes.specs.Changes.{begun_count, with_changes}
 use Rattle.version_lists.specs.Versions.{newest_rows, seen_at}
 
+-- each is of one of so many tables
+abbrev pub AreWithin : ℕ → List TableChange → Type 0
+AreWithin count [] = Unit {0}
+AreWithin count (change ∷ changes) = (change.table < count) × AreWithin count changes
+
 -- each is of a table that is there
 abbrev pub AreChangesOf : List TableChange → Stored → Type 0
-AreChangesOf [] old = Unit {0}
-AreChangesOf (change ∷ changes) old = (change.table < length old.columns) × AreChangesOf changes old
+AreChangesOf changes old = AreWithin (length old.columns) changes
 
 -- The next commit: the rows that end end with it, and those that begin, begin with it, under the next numbers.
 abbrev pub changed : List TableChange → Stored → Stored

@@ -3,6 +3,7 @@ pub mod Cleaning
 pub mod Holdings
 pub mod Marks
 pub mod Openings
+pub mod Prepared
 pub mod Room
 pub mod Seeing
 pub mod Stored

@@ -46,3 +46,9 @@ HaveRoom (one ∷ opened) = HasRoom one × HaveRoom opened
 abbrev pub ends_count : List TableChange → ℕ
 ends_count [] = 0
 ends_count (change ∷ changes) = length change.ends + ends_count changes
+
+-- as many marks as rows in each table
+abbrev pub AreAlike : List (List Mark) → List TableRows → Type 0
+AreAlike [] [] = Unit {0}
+AreAlike (marks ∷ others) (table ∷ tables) = (length marks ≡ length table.rows.rows) × AreAlike others tables
+AreAlike marks tables = ⊥

@@ -1,6 +1,9 @@
-ghost use Rattle.std.specs.Prelude.{◌≡◌, ◌+◌, ◌<◌, ◌≤◌, ◌^◌, ◌∷◌, ◌++◌, length, set, OnOk};
+ghost use Rattle.std.specs.Prelude.{◌≡◌, ◌+◌, ◌<◌, ◌≤◌, ◌^◌, [], ◌∷◌, ◌++◌, ℕ, length, set, OnOk};
 ghost use Rattle.std.specs.VecDeque.{deque_capacity};
-ghost use Rattle.row_versions.specs.Waiting.{HasRoom, ended_after, marks_after, marks_back, table_after, table_of, tables_back};
+ghost use Rattle.row_versions.specs.Changing.{AreWithin, changed};
+ghost use Rattle.row_versions.specs.Holdings.{IsHolding, stored};
+ghost use Rattle.row_versions.specs.Prepared.{IsPrepared, stored_back};
+ghost use Rattle.row_versions.specs.Waiting.{AreAlike, HasRoom, HaveRoom, changes_of, ended_after, marks_after, marks_back, table_after, table_of, tables_back};
 
 use crate::ended::EndedRow;
 use crate::mark::Mark;
@@ -31,10 +34,15 @@ pub fn open(
 ) -> Result<(), Memory>
     requires place { change.table < length held.old.tables.items }
     requires marks_place { change.table < length held.old.marks.items }
+    requires alike { AreAlike held.old.marks.items held.old.tables.items }
     ensures tables { tables_back waiting.new.items held.new.tables.items ≡ tables_back waiting.old.items held.old.tables.items }
     ensures marks { marks_back waiting.new.items held.new.marks.items ≡ marks_back waiting.old.items held.old.marks.items }
     ensures many { length held.new.tables.items ≡ length held.old.tables.items }
     ensures many_marks { length held.new.marks.items ≡ length held.old.marks.items }
+    ensures alike { OnOk result (AreAlike held.new.marks.items held.new.tables.items) }
+    ensures within { (n : ℕ) → change.table < n → AreWithin n (changes_of waiting.old.items) → AreWithin n (changes_of waiting.new.items) }
+    ensures changes { OnOk result (changes_of waiting.new.items ≡ change ∷ changes_of waiting.old.items) }
+    ensures room { OnOk result (HaveRoom waiting.old.items → HaveRoom waiting.new.items) }
     ensures ended { held.new.ended ≡ held.old.ended }
     ensures next { held.new.next ≡ held.old.next }
 {
@@ -106,6 +114,7 @@ fn take_table(alloc: Global, place: usize, held: &mut Held) -> (TableRows, List<
     ensures marks { set held.new.marks.items place result.1 ≡ held.old.marks.items }
     ensures many { length held.new.tables.items ≡ length held.old.tables.items }
     ensures many_marks { length held.new.marks.items ≡ length held.old.marks.items }
+    ensures alike { AreAlike held.old.marks.items held.old.tables.items → AreAlike held.new.marks.items held.new.tables.items }
     ensures ended { held.new.ended ≡ held.old.ended }
     ensures next { held.new.next ≡ held.old.next }
 {
@@ -113,7 +122,70 @@ fn take_table(alloc: Global, place: usize, held: &mut Held) -> (TableRows, List<
         table: 0,
         rows: VTable::empty(alloc),
     };
-    let table = mem::replace(&mut held.tables[place], none);
-    let marks = mem::replace(&mut held.marks[place], List::new(alloc));
+    let table = take_at(place, none, &mut held.tables);
+    let marks = take_at(place, List::new(alloc), &mut held.marks);
     (table, marks)
+}
+
+fn take_at<T>(place: usize, none: T, items: &mut Vec<T>) -> T
+    requires { place < length items.old.items }
+    ensures was { set items.new.items place result ≡ items.old.items }
+    ensures left { items.new.items ≡ set items.old.items place none }
+{
+    mem::replace(&mut items[place], none)
+}
+
+/// Takes out the tables of changes, each with room for what it will be.
+pub fn open_all(
+    alloc: Global,
+    changes: List<TableChange>,
+    held: &mut Held,
+    waiting: &mut VecDeque<Opened>,
+) -> Result<(), Memory>
+    requires within { AreWithin (length held.old.tables.items) changes }
+    requires alike { AreAlike held.old.marks.items held.old.tables.items }
+    requires none { waiting.old.items ≡ [] }
+    ensures tables { tables_back waiting.new.items held.new.tables.items ≡ held.old.tables.items }
+    ensures marks { marks_back waiting.new.items held.new.marks.items ≡ held.old.marks.items }
+    ensures many { length held.new.tables.items ≡ length held.old.tables.items }
+    ensures many_marks { length held.new.marks.items ≡ length held.old.tables.items }
+    ensures within { AreWithin (length held.old.tables.items) (changes_of waiting.new.items) }
+    ensures changes { OnOk result (changes_of waiting.new.items ≡ changes) }
+    ensures room { OnOk result (HaveRoom waiting.new.items) }
+    ensures ended { held.new.ended ≡ held.old.ended }
+    ensures next { held.new.next ≡ held.old.next }
+{
+    let mut changes = changes;
+    while let Some(change) = changes.pop() {
+        open(alloc, change, held, waiting)?;
+    }
+    Ok(())
+}
+
+/// Puts all tables back as they were.
+pub fn close_all(held: &mut Held, waiting: VecDeque<Opened>)
+    requires within { AreWithin (length held.old.tables.items) (changes_of waiting.items) }
+    requires many { length held.old.marks.items ≡ length held.old.tables.items }
+    ensures tables { held.new.tables.items ≡ tables_back waiting.items held.old.tables.items }
+    ensures marks { held.new.marks.items ≡ marks_back waiting.items held.old.marks.items }
+    ensures ended { held.new.ended ≡ held.old.ended }
+    ensures next { held.new.next ≡ held.old.next }
+{
+    let mut waiting = waiting;
+    while let Some(one) = waiting.pop_front() {
+        close(one, held);
+    }
+}
+
+/// Puts all tables back as they are after the next commit's changes. It takes no memory.
+pub fn change_all(applied: u64, held: &mut Held, waiting: VecDeque<Opened>)
+    requires { IsPrepared waiting.items held.old.ended.items held.old.marks.items held.old.tables.items held.old.next applied (deque_capacity held.old.ended) }
+    ensures stored { stored held.new.ended.items held.new.marks.items held.new.tables.items held.new.next (applied + 1) ≡ changed (changes_of waiting.items) (stored_back waiting.items held.old.ended.items held.old.marks.items held.old.tables.items held.old.next applied) }
+    ensures holding { IsHolding held.new.ended.items held.new.marks.items held.new.tables.items held.new.next (applied + 1) }
+{
+    let commit = applied + 1;
+    let mut waiting = waiting;
+    while let Some(one) = waiting.pop_front() {
+        change_one(commit, one, held);
+    }
 }

@@ -5,6 +5,7 @@
 
 mod clean;
 mod count;
+mod counting;
 mod ended;
 mod held;
 mod mark;
