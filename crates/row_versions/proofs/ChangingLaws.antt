@@ -362,3 +362,14 @@ changing_held k opened ended marks tables next ended_room versions last columns 
       in_turn = it.in_turn;
       marked = it.marked;
     }
+
+pub changing_step : (k : ℕ) (one : Opened) (before opened : List Opened) (ended ended_new : List EndedRow) (marks marks_new : List (List Mark)) (tables tables_new : List TableRows) (next next_new ended_room : ℕ) (versions : List Version) (last : ℕ)
+    (columns : List (List VColumn)) → IsChanging k before ended marks tables next ended_room versions last columns → before ≡ one ∷ opened
+    → ended_new ≡ ended ++ ended_after k one → marks_new ≡ set marks one.change.table (marks_after k next one) → tables_new ≡ set tables one.change.table (table_after one) → next_new ≡ next + length one.change.begun
+    → IsChanging k opened ended_new marks_new tables_new next_new ended_room versions last columns
+changing_step k one before opened ended ended_new marks marks_new tables tables_new next next_new ended_room versions last columns h before_is ended_is marks_is tables_is next_is =
+    subst (λ xs. IsChanging k opened xs marks_new tables_new next_new ended_room versions last columns) (sym ended_is)
+    (subst (λ xs. IsChanging k opened (ended ++ ended_after k one) xs tables_new next_new ended_room versions last columns) (sym marks_is)
+    (subst (λ xs. IsChanging k opened (ended ++ ended_after k one) (set marks one.change.table (marks_after k next one)) xs next_new ended_room versions last columns) (sym tables_is)
+    (subst (λ n. IsChanging k opened (ended ++ ended_after k one) (set marks one.change.table (marks_after k next one)) (set tables one.change.table (table_after one)) n ended_room versions last columns) (sym next_is)
+    (changing_next k one opened ended marks tables next ended_room versions last columns (subst (λ os. IsChanging k os ended marks tables next ended_room versions last columns) before_is h)))))

@@ -3,8 +3,10 @@ ghost use Rattle.std.specs.VecDeque.{deque_capacity};
 ghost use Rattle.row_versions.specs.Changing.{AreWithin, changed};
 ghost use Rattle.row_versions.specs.Holdings.{IsHolding, stored};
 ghost use Rattle.row_versions.specs.Prepared.{IsPrepared, stored_back};
-ghost use Rattle.row_versions.specs.Waiting.{AreAlike, HasRoom, HaveRoom, changes_of, ended_after, marks_after, marks_back, table_after, table_of, tables_back};
+ghost use Rattle.version_changes.specs.Changes.{begun_count};
+ghost use Rattle.row_versions.specs.Waiting.{AreAlike, HasRoom, HaveRoom, changes_of, ended_after, ends_count, marks_after, marks_back, table_after, table_of, tables_back};
 
+use crate::counting::counted;
 use crate::ended::EndedRow;
 use crate::mark::Mark;
 use crate::opened::{Opened, changed, closed, give_room, taken_out};
@@ -188,4 +190,37 @@ pub fn change_all(applied: u64, held: &mut Held, waiting: VecDeque<Opened>)
     while let Some(one) = waiting.pop_front() {
         change_one(commit, one, held);
     }
+}
+
+/// Takes out the tables of changes, with room for all that the next commit makes of them.
+pub fn open_with_room(
+    alloc: Global,
+    applied: u64,
+    changes: List<TableChange>,
+    held: &mut Held,
+    waiting: &mut VecDeque<Opened>,
+) -> Result<(), Memory>
+    requires within { AreWithin (length held.old.tables.items) changes }
+    requires alike { AreAlike held.old.marks.items held.old.tables.items }
+    requires none { waiting.old.items ≡ [] }
+    ensures tables { tables_back waiting.new.items held.new.tables.items ≡ held.old.tables.items }
+    ensures marks { marks_back waiting.new.items held.new.marks.items ≡ held.old.marks.items }
+    ensures many { length held.new.tables.items ≡ length held.old.tables.items }
+    ensures many_marks { length held.new.marks.items ≡ length held.old.tables.items }
+    ensures within { AreWithin (length held.old.tables.items) (changes_of waiting.new.items) }
+    ensures ended { held.new.ended.items ≡ held.old.ended.items }
+    ensures next { held.new.next ≡ held.old.next }
+    ensures changes { OnOk result (changes_of waiting.new.items ≡ changes) }
+    ensures room { OnOk result (HaveRoom waiting.new.items) }
+    ensures ended_room { OnOk result (length held.old.ended.items + ends_count changes ≤ deque_capacity held.new.ended) }
+    ensures numbers { OnOk result (held.old.next + begun_count changes < 2 ^ 64) }
+    ensures commits { OnOk result (applied + 1 < 2 ^ 64) }
+{
+    let counts = counted(applied, held.next, changes.as_slice());
+    open_all(alloc, changes, held, waiting)?;
+    let Some(ends) = counts else {
+        return Err(Memory);
+    };
+    held.ended.reserve(ends)?;
+    Ok(())
 }

@@ -13,7 +13,9 @@ mod newest;
 mod opened;
 mod opening;
 mod part;
+mod prepared;
 mod seen;
 mod versions;
 
+pub use prepared::Prepared;
 pub use versions::RowVersions;

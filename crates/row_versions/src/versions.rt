@@ -1,19 +1,24 @@
-ghost use Rattle.std.specs.Prelude.{◌≡◌, length, IfOk};
-ghost use Rattle.row_versions.specs.Holdings.{IsKept};
+ghost use Rattle.std.specs.Prelude.{◌≡◌, [], length, IfErr, IfOk};
+ghost use Rattle.row_versions.specs.Changing.{AreChangesOf, IsChanged};
+ghost use Rattle.row_versions.specs.Holdings.{IsHolding, IsKept, stored};
 ghost use Rattle.row_versions.specs.Openings.{AreCounted};
 ghost use Rattle.row_versions.specs.Stored.{newest_tables, opened};
+ghost use Rattle.table_changes.specs.Changes.{RiseFrom};
 ghost use Rattle.version_lists.specs.Versions.{cleaned, rows_seen};
 
 use crate::clean::drop_ended;
 use crate::count::kept;
 use crate::ended::EndedRow;
+use crate::held::{Held, close_all, open_with_room};
 use crate::mark::Mark;
 use crate::opening::first_marks;
+use crate::prepared::Prepared;
 use crate::seen::rows_seen;
 use plan_tables::Rows;
 use std::alloc::Global;
 use std::collections::VecDeque;
 use std::marker::Model;
+use table_changes::TableChange;
 use values::{List, Memory};
 use vtable::VRow;
 
@@ -58,6 +63,75 @@ impl RowVersions {
             next,
             applied: 0,
         })
+    }
+
+    /// No tables. It takes no memory.
+    pub fn none(alloc: Global) -> RowVersions
+        ensures { result ≡ opened [] }
+    {
+        RowVersions {
+            newest: Rows {
+                tables: List::new(alloc),
+            },
+            marks: List::new(alloc),
+            ended: VecDeque::new(alloc),
+            next: 0,
+            applied: 0,
+        }
+    }
+
+    /// What is held, as versions.
+    pub(crate) fn of(held: Held, applied: u64) -> RowVersions
+        requires { IsHolding held.ended.items held.marks.items held.tables.items held.next applied }
+        ensures { result ≡ stored held.ended.items held.marks.items held.tables.items held.next applied }
+    {
+        let Held {
+            tables,
+            marks,
+            ended,
+            next,
+        } = held;
+        RowVersions {
+            newest: Rows {
+                tables: List::from_vec(tables),
+            },
+            marks: List::from_vec(marks),
+            ended,
+            next,
+            applied,
+        }
+    }
+
+    /// Takes all memory that the changes of a commit want, and changes nothing yet. Where there isn't enough, or no number
+    /// for the commit or a row is left, the versions come back as they are.
+    pub fn prepare(self, alloc: Global, changes: List<TableChange>) -> Result<Prepared, RowVersions>
+        requires rising { RiseFrom 0 changes }
+        requires places { AreChangesOf changes self }
+        ensures ok { IfOk result (λ it. (it.0 ≡ self) × IsChanged changes self it.1) }
+        ensures err { IfErr result (λ back. back ≡ self) }
+    {
+        let RowVersions {
+            newest,
+            marks,
+            ended,
+            next,
+            applied,
+        } = self;
+        let Rows { tables } = newest;
+        let mut held = Held {
+            tables: tables.into_vec(),
+            marks: marks.into_vec(),
+            ended,
+            next,
+        };
+        let mut waiting = VecDeque::new(alloc);
+        match open_with_room(alloc, applied, changes, &mut held, &mut waiting) {
+            Ok(()) => Ok(Prepared::of(held, waiting, applied)),
+            Err(_no_memory) => {
+                close_all(&mut held, waiting);
+                Err(RowVersions::of(held, applied))
+            }
+        }
     }
 
     /// The tables with their newest rows.
