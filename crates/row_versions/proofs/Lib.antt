@@ -5,6 +5,7 @@ pub mod CountLaws
 pub mod HoldingLaws
 pub mod OpeningLaws
 pub mod PartLaws
+pub mod PreparingLaws
 pub mod RoomLaws
 pub mod SeeingLaws
 pub mod TakingLaws

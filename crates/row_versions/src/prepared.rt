@@ -21,7 +21,11 @@ pub struct Prepared {
 impl Model for Prepared {
     ghost use Rattle.std.specs.Coded.{codes};
     ghost use Rattle.feature_expr.specs.contracts.expr.Expr as e;
+    ghost use Rattle.std.specs.VecDeque.{deque_capacity};
+    ghost use Rattle.row_versions.specs.Changing.{changed};
+    ghost use Rattle.row_versions.specs.Prepared.{IsPrepared, stored_back};
     ghost use Rattle.row_versions.specs.Stored.{Stored};
+    ghost use Rattle.row_versions.specs.Waiting.{changes_of};
 
     ghost Value = { Stored × Stored };
 
