@@ -1,10 +1,9 @@
 -- A table among those that are held, and what its change makes of them.
-use Rattle.std.proofs.Common.{◌≡◌, ℕ, zero, suc, ◌+◌, ◌<◌, ◌≤◌, ◌==◌, Bool, true, false, cond, ◌&&◌, if◌then◌else◌, List, [], ◌∷◌, ◌++◌, length, map, filter, set, None, refl, sym, ◌∙◌, ap, ap₂, subst, append_assoc, append-nil, arith}
+use Rattle.std.proofs.Common.{◌≡◌, ℕ, zero, suc, ◌+◌, ◌<◌, ◌≤◌, ◌==◌, Bool, true, false, ◌&&◌, if◌then◌else◌, List, [], ◌∷◌, ◌++◌, length, map, filter, set, refl, sym, ◌∙◌, ap, ap₂, subst, append_assoc, arith}
 use Rattle.std.proofs.lemmas.Bool.Decides.{nat_tests}
-use Rattle.std.proofs.lemmas.List.{map-append}
 use Rattle.std.proofs.lemmas.List.Elements.{filter-append}
 use Rattle.plan_tables.specs.declared.rows.TableRows.{TableRows}
-use Rattle.row_versions.proofs.HoldingLaws.{ended_none, here_all, later_none, marked_numbered, there_none}
+use Rattle.row_versions.proofs.HoldingLaws.{later_none, there_none}
 use Rattle.row_versions.proofs.PartLaws.{next_row}
 use Rattle.row_versions.specs.Holdings.{AreMarked, AreTables, all_newest, ended_row, newest_of, newest_row}
 use Rattle.row_versions.specs.Marks.{begun_marks, end_row, is_end, marks_without, rows_ended}
@@ -12,9 +11,9 @@ use Rattle.row_versions.specs.declared.ended.EndedRow.{EndedRow}
 use Rattle.row_versions.specs.declared.mark.Mark.{Mark}
 use Rattle.table_changes.specs.Changes.{rows_without}
 use Rattle.version_changes.specs.Changes.{ended_here, ends_behind, with_ends}
-use Rattle.version_lists.proofs.MoveLaws.{Moves, moves_behind, moves_cons, moves_none, moves_of, moves_on, moves_past}
+use Rattle.version_lists.proofs.MoveLaws.{Moves, moves_cons, moves_none, moves_of, moves_on, moves_past}
 use Rattle.version_lists.specs.Orders.{AreLower}
-use Rattle.version_lists.specs.Versions.{AreNumbered, Version, begun_versions, ended_version, is_newest}
+use Rattle.version_lists.specs.Versions.{Version, begun_versions, ended_version, is_newest}
 use Rattle.vtable.specs.declared.table.VRow.{VRow}
 
 -- Around a table: what is held of those in front of it and behind it.

@@ -1,11 +1,11 @@
 -- Tables are put back one after the other, each after its change, and the list that contracts see changes with them.
-use Rattle.std.proofs.Common.{◌≡◌, ◌≢◌, ℕ, zero, suc, ◌+◌, ◌<◌, ◌≤◌, ◌^◌, Bool, true, false, if◌then◌else◌, List, [], ◌∷◌, ◌++◌, length, map, filter, set, Option, Some, refl, sym, ◌∙◌, ap, ap₂, subst, append_assoc, append-nil, arith}
+use Rattle.std.proofs.Common.{◌≡◌, ℕ, zero, suc, ◌+◌, ◌<◌, ◌≤◌, ◌^◌, Bool, true, false, if◌then◌else◌, List, [], ◌∷◌, ◌++◌, length, map, filter, set, refl, sym, ◌∙◌, ap, ap₂, subst, arith}
 use Rattle.std.specs.List.{AllByRecursion}
-use Rattle.std.proofs.lemmas.List.{length-append, length-set, map-append, set-set, set_comm}
+use Rattle.std.proofs.lemmas.List.{length-append, length-set, map-append, set_comm}
 use Rattle.plan_tables.specs.declared.rows.TableRows.{TableRows}
 use Rattle.row_versions.proofs.BlockedLaws.{IsAround, around, begun_marked, begun_newest, found_around, front_of, behind_of, marked_alike, marked_append, newest_append, parted, without_marked}
 use Rattle.row_versions.proofs.HoldingLaws.{ended_none, here_all, marked_numbered}
-use Rattle.row_versions.proofs.PartLaws.{left, next_row}
+use Rattle.row_versions.proofs.PartLaws.{left}
 use Rattle.row_versions.specs.Changing.{AreWithin, changed}
 use Rattle.row_versions.specs.Holdings.{AreEnded, AreMarked, AreTables, IsHolding, IsKept, all_newest, ended_row, held, newest_of, stored}
 use Rattle.row_versions.specs.Marks.{begun_marks, end_row, is_end, marks_without, rows_ended}
@@ -19,8 +19,7 @@ use Rattle.table_changes.specs.Changes.{RiseFrom, rows_without}
 use Rattle.table_changes.specs.declared.change.TableChange.{TableChange}
 use Rattle.version_changes.proofs.BlockLaws.{IsChangedBlock, block_changed, lower_out}
 use Rattle.version_changes.proofs.NumberLaws.{change_lower, change_numbered, changes_lower, changes_numbered, changes_placed}
-use Rattle.version_changes.specs.Changes.{begun_count, ends_behind, with_change, with_changes, with_ends}
-use Rattle.version_lists.proofs.BlockLaws.{lower_held}
+use Rattle.version_changes.specs.Changes.{begun_count, ends_behind, with_change, with_changes}
 use Rattle.version_lists.proofs.MoveLaws.{all_held}
 use Rattle.version_lists.specs.Orders.{AreLower, in_order}
 use Rattle.version_lists.specs.Versions.{AreNumbered, IsPlaced, Version, begun_versions, is_newest}
@@ -181,12 +180,12 @@ module _ (k next : ℕ) (change : TableChange) (columns : List VColumn) (own : L
   one_changed : IsOneChanged k next change.table change columns own rows ended marks tables
   one_changed = record {
     same = ap in_order held_after
-    ∙ block_changed k next change (map ended_row ended) (front_of change.table marks tables) (newest_of change.table own rows) (behind_of change.table marks tables)
-    (map ended_row (rows_ended k change.table 0 change.ends own rows)) (newest_of change.table (marks_without 0 change.ends own) (rows_without 0 change.ends rows)) block numbered_before lower_before
-    ∙ ap (λ xs. with_change k next change (in_order xs)) (sym held_before);
+        ∙ block_changed k next change (map ended_row ended) (front_of change.table marks tables) (newest_of change.table own rows) (behind_of change.table marks tables)
+        (map ended_row (rows_ended k change.table 0 change.ends own rows)) (newest_of change.table (marks_without 0 change.ends own) (rows_without 0 change.ends rows)) block numbered_before lower_before
+        ∙ ap (λ xs. with_change k next change (in_order xs)) (sym held_before);
     are = is.put (marks_then k next change own) (with_rows change.table columns (rows_then change rows)) (sym (none_more change.table))
-    (marked_append 0 next change.table (marks_without 0 change.ends own) (begun_marks next k change.begun) (rows_without 0 change.ends rows) change.begun (omega arith) stay_marked stay_lower
-    (λ least le. begun_marked least next k change.begun le));
+        (marked_append 0 next change.table (marks_without 0 change.ends own) (begun_marks next k change.begun) (rows_without 0 change.ends rows) change.begun (omega arith) stay_marked stay_lower
+        (λ least le. begun_marked least next k change.begun le));
   }
 
 one_by : (k next number : ℕ) (change : TableChange) (columns : List VColumn) (own : List Mark) (rows : List VRow) (ended : List EndedRow) (marks : List (List Mark)) (tables : List TableRows)
@@ -321,7 +320,7 @@ changing_first opened ended marks tables next applied ended_room h = record {
   lower = h.holding.kept.lower;
   in_turn = h.holding.in_turn;
   up_to = up_of applied ended (all_newest (marks_back opened marks) (tables_back opened tables))
-  (all_held (IsPlaced applied) (held ended (marks_back opened marks) (tables_back opened tables)) h.holding.kept.placed);
+      (all_held (IsPlaced applied) (held ended (marks_back opened marks) (tables_back opened tables)) h.holding.kept.placed);
   marked = h.holding.marked;
   rising = h.rising;
   within = h.within;

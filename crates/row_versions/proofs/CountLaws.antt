@@ -1,5 +1,5 @@
 -- How many versions are held: no more than numbers were given.
-use Rattle.std.proofs.Common.{◌≡◌, ℕ, ◌+◌, ◌<◌, ◌≤◌, Bool, true, false, if◌then◌else◌, List, [], ◌∷◌, ◌++◌, length, map, nat_le, refl, sym, ◌∙◌, ap, ap₂, subst, arith}
+use Rattle.std.proofs.Common.{◌≡◌, ℕ, ◌+◌, ◌≤◌, Bool, true, false, if◌then◌else◌, List, [], ◌∷◌, length, map, nat_le, refl, sym, ◌∙◌, ap₂, subst, arith}
 use Rattle.std.proofs.lemmas.List.{length-append, length-map}
 use Rattle.plan_tables.specs.declared.rows.TableRows.{TableRows}
 use Rattle.row_versions.specs.Holdings.{AreMarked, AreTables, IsHolding, all_newest, ended_row, held, newest_of}

@@ -1,8 +1,8 @@
 -- The rows of tables before any commit are held as their first versions.
-use Rattle.std.proofs.Common.{◌≡◌, ℕ, ◌+◌, ◌<◌, ◌≤◌, suc, List, [], ◌∷◌, ◌++◌, length, refl, sym, ◌∙◌, ap, ap₂, subst, arith}
+use Rattle.std.proofs.Common.{◌≡◌, ℕ, ◌+◌, ◌≤◌, suc, List, [], ◌∷◌, ◌++◌, length, refl, sym, ◌∙◌, ap, ap₂, subst, arith}
 use Rattle.std.specs.List.{AllByRecursion}
 use Rattle.plan_tables.specs.declared.rows.TableRows.{TableRows}
-use Rattle.row_versions.specs.Holdings.{AreMarked, AreTables, IsHolding, IsKept, all_newest, held, newest_of, newest_row, stored}
+use Rattle.row_versions.specs.Holdings.{AreMarked, AreTables, IsHolding, IsKept, all_newest, newest_of, newest_row, stored}
 use Rattle.row_versions.specs.Openings.{AreCounted, first_marks, marks_from}
 use Rattle.row_versions.specs.declared.mark.Mark.{Mark}
 use Rattle.row_versions.specs.Stored.{Stored, columns_of, first_versions, opened, row_count}

@@ -1,5 +1,5 @@
 -- Rows are parted one after the other.
-use Rattle.std.proofs.Common.{◌≡◌, ℕ, suc, ◌+◌, ◌<◌, ◌≤◌, ◌==◌, Bool, true, false, true≢false, if◌then◌else◌, List, [], ◌∷◌, ◌++◌, length, refl, sym, ◌∙◌, ap, ap₂, subst, append_assoc, append-nil, arith}
+use Rattle.std.proofs.Common.{◌≡◌, ℕ, suc, ◌+◌, ◌<◌, ◌≤◌, ◌==◌, Bool, true, false, true≢false, if◌then◌else◌, List, [], ◌∷◌, ◌++◌, length, refl, sym, ◌∙◌, ap, subst, append_assoc, append-nil, arith}
 use Rattle.std.proofs.lemmas.Bool.Decides.{nat_tests}
 use Rattle.std.proofs.lemmas.List.{length-append}
 use Rattle.row_versions.specs.Marks.{end_row, is_end, marks_without, rows_ended}
@@ -83,9 +83,9 @@ parted_one k table place count ends row rows mark marks kept kept_new kept_marks
     record {
       rows_are = ap (λ xs. xs ++ rows_without (place + 1) (ends_behind place ends) rows) kept_is ∙ append_assoc kept row_here (rows_without (place + 1) (ends_behind place ends) rows) ∙ ap (λ xs. kept ++ xs) (next_row place ends row rows) ∙ h.rows_are;
       marks_are = ap (λ xs. xs ++ marks_without (place + 1) (ends_behind place ends) marks) marks_is ∙ append_assoc kept_marks mark_here (marks_without (place + 1) (ends_behind place ends) marks)
-      ∙ ap (λ xs. kept_marks ++ xs) (mark_by mark (marks_without (place + 1) (ends_behind place ends) marks) b) ∙ h.marks_are;
+          ∙ ap (λ xs. kept_marks ++ xs) (mark_by mark (marks_without (place + 1) (ends_behind place ends) marks) b) ∙ h.marks_are;
       ended_are = ap (λ xs. xs ++ rows_ended k table (place + 1) (ends_behind place ends) marks rows) ended_is ∙ append_assoc ended end_here (rows_ended k table (place + 1) (ends_behind place ends) marks rows)
-      ∙ ap (λ xs. ended ++ xs) (end_by (end_row k table mark row) (rows_ended k table (place + 1) (ends_behind place ends) marks rows) b) ∙ h.ended_are;
+          ∙ ap (λ xs. ended ++ xs) (end_by (end_row k table mark row) (rows_ended k table (place + 1) (ends_behind place ends) marks rows) b) ∙ h.ended_are;
       marked = omega (arith, marked);
       rows_fit = omega (arith, many, few, fit);
       marks_fit = omega (arith, many_marks, few_marks, marks_fit);

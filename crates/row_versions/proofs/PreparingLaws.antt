@@ -1,5 +1,5 @@
 -- Changes that are prepared leave what is stored, and say what it will be.
-use Rattle.std.proofs.Common.{◌≡◌, ℕ, ◌+◌, ◌≤◌, List, [], ◌∷◌, refl, sym, ◌∙◌, ap, ap₂, subst, arith}
+use Rattle.std.proofs.Common.{◌≡◌, ℕ, ◌+◌, List, [], ◌∷◌, refl, sym, ◌∙◌, ap₂, subst, arith}
 use Rattle.plan_tables.specs.declared.rows.TableRows.{TableRows}
 use Rattle.row_versions.proofs.BlockedLaws.{marked_alike}
 use Rattle.row_versions.specs.Changing.{IsChanged, changed}
@@ -8,11 +8,10 @@ use Rattle.row_versions.specs.Stored.{Stored}
 use Rattle.row_versions.specs.Waiting.{AreAlike}
 use Rattle.row_versions.specs.declared.ended.EndedRow.{EndedRow}
 use Rattle.row_versions.specs.declared.mark.Mark.{Mark}
-use Rattle.table_changes.specs.Changes.{RiseFrom, after_changes}
+use Rattle.table_changes.specs.Changes.{RiseFrom}
 use Rattle.table_changes.specs.declared.change.TableChange.{TableChange}
 use Rattle.version_changes.proofs.NewestLaws.{changes_newest}
 use Rattle.version_changes.proofs.SeenLaws.{changes_seen}
-use Rattle.version_lists.specs.Versions.{newest_rows, seen_at}
 
 pub tables_alike : (number : ℕ) (marks : List (List Mark)) (tables : List TableRows) → AreTables number marks tables → AreAlike marks tables
 tables_alike number [] [] h = tt

@@ -1,5 +1,5 @@
 -- Room for what rows will be.
-use Rattle.std.proofs.Common.{◌≡◌, ℕ, suc, ◌==◌, Bool, true, false, List, [], ◌∷◌, length, true≢false, sym, ◌∙◌, arith}
+use Rattle.std.proofs.Common.{◌≡◌, ℕ, suc, ◌==◌, true, false, List, [], ◌∷◌, length, true≢false, sym, ◌∙◌, arith}
 use Rattle.std.proofs.lemmas.Bool.Decides.{nat_tests}
 use Rattle.row_versions.specs.Room.{HasPlaces, IsRoom}
 use Rattle.row_versions.specs.declared.newest.Newest.{Newest}

@@ -1,20 +1,19 @@
 -- What a snapshot sees of a table is made from what is held.
-use Rattle.std.proofs.Common.{◌≡◌, ℕ, suc, zero, ◌+◌, ◌<◌, ◌≤◌, ◌==◌, Bool, true, false, cond, not, ◌&&◌, if◌then◌else◌, List, [], ◌∷◌, ◌++◌, map, filter, Option, Some, None, slice_get, nat_le, refl, sym, ◌∙◌, ap, ap₂, subst, append-nil, arith, rules}
+use Rattle.std.proofs.Common.{◌≡◌, ℕ, suc, zero, ◌+◌, ◌<◌, ◌==◌, Bool, true, false, cond, ◌&&◌, if◌then◌else◌, List, [], ◌∷◌, ◌++◌, map, filter, Option, Some, None, slice_get, nat_le, refl, ◌∙◌, ap, ap₂, subst, append-nil, arith}
 use Rattle.std.specs.List.{insert}
 use Rattle.std.proofs.lemmas.Bool.Decides.{nat_tests}
-use Rattle.std.proofs.lemmas.List.{map-append}
 use Rattle.std.proofs.lemmas.List.Elements.{filter-append}
 use Rattle.plan_tables.specs.declared.rows.TableRows.{TableRows}
 use Rattle.row_versions.proofs.HoldingLaws.{marked_numbered, numbered_filter}
 use Rattle.row_versions.specs.Holdings.{AreMarked, AreTables, IsHolding, all_newest, ended_row, held, newest_of, newest_row}
-use Rattle.row_versions.specs.Seeing.{newest_by, place_in, put_all, put_ended, put_row, row_of, seen_newest, seen_table}
+use Rattle.row_versions.specs.Seeing.{place_in, put_all, put_ended, put_row, row_of, seen_newest, seen_table}
 use Rattle.row_versions.specs.declared.ended.EndedRow.{EndedRow}
 use Rattle.row_versions.specs.declared.mark.Mark.{Mark}
 use Rattle.row_versions.specs.declared.seen.SeenRow.{SeenRow}
 use Rattle.version_lists.proofs.BlockLaws.{already}
 use Rattle.version_lists.proofs.OrderLaws.{filter_in_order}
 use Rattle.version_lists.specs.Orders.{in_order, put}
-use Rattle.version_lists.specs.Versions.{AreNumbered, Version, rows_seen, sees_of}
+use Rattle.version_lists.specs.Versions.{Version, rows_seen, sees_of}
 use Rattle.vtable.specs.declared.table.VRow.{VRow}
 
 -- a row is inserted at its place

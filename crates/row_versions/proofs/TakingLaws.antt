@@ -1,5 +1,5 @@
 -- Tables are taken out and put back.
-use Rattle.std.proofs.Common.{◌≡◌, ℕ, zero, suc, ◌+◌, ◌<◌, List, [], ◌∷◌, ◌++◌, length, set, get_or, append-nil, refl, sym, ◌∙◌, ap, subst, arith}
+use Rattle.std.proofs.Common.{◌≡◌, ℕ, zero, suc, ◌<◌, List, [], ◌∷◌, ◌++◌, length, set, get_or, append-nil, refl, sym, ◌∙◌, ap, subst, arith}
 use Rattle.std.proofs.lemmas.List.{set-get_or, set-set}
 use Rattle.plan_tables.specs.declared.rows.TableRows.{TableRows}
 use Rattle.row_versions.specs.Changing.{AreWithin}

@@ -1,6 +1,6 @@
 -- What a snapshot sees of a table, from what is held: its newest rows that had begun by then, and among them, at the places
 -- of their numbers, its ended rows that had begun and not ended.
-use Rattle.std.specs.Prelude.{ℕ, suc, Bool, List, [], ◌∷◌, ◌++◌, Option, Some, None, nat_le, if◌then◌else◌}
+use Rattle.std.specs.Prelude.{ℕ, suc, List, [], ◌∷◌, ◌++◌, Option, Some, None, nat_le, if◌then◌else◌}
 use Rattle.plan_tables.specs.declared.rows.TableRows.{TableRows}
 use Rattle.row_versions.specs.Holdings.{ended_row}
 use Rattle.row_versions.specs.declared.ended.EndedRow.{EndedRow}

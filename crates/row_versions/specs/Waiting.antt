@@ -1,5 +1,5 @@
 -- Tables that are taken out for their changes, as they are and as they will be.
-use Rattle.std.specs.Prelude.{ℕ, ◌+◌, ◌≡◌, List, [], ◌∷◌, ◌++◌, length, map, set}
+use Rattle.std.specs.Prelude.{ℕ, ◌+◌, ◌≤◌, ◌≡◌, List, [], ◌∷◌, ◌++◌, length, set}
 use Rattle.plan_tables.specs.declared.rows.TableRows.{TableRows}
 use Rattle.row_versions.specs.Marks.{begun_marks, marks_without, rows_ended}
 use Rattle.row_versions.specs.Room.{IsRoom}
@@ -52,3 +52,14 @@ abbrev pub AreAlike : List (List Mark) → List TableRows → Type 0
 AreAlike [] [] = Unit {0}
 AreAlike (marks ∷ others) (table ∷ tables) = (length marks ≡ length table.rows.rows) × AreAlike others tables
 AreAlike marks tables = ⊥
+
+-- room for those that end, behind the ended ones
+abbrev pub HasEndedRoom : Opened → List EndedRow → ℕ → Type 0
+HasEndedRoom one ended room = length ended + length one.change.ends ≤ room
+
+-- the table, where it is put back, is the same one
+abbrev pub AreTablesBack : List Opened → List TableRows → List Opened → List TableRows → Type 0
+AreTablesBack opened tables old_opened old_tables = tables_back opened tables ≡ tables_back old_opened old_tables
+
+abbrev pub AreMarksBack : List Opened → List (List Mark) → List Opened → List (List Mark) → Type 0
+AreMarksBack opened marks old_opened old_marks = marks_back opened marks ≡ marks_back old_opened old_marks

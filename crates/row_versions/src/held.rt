@@ -1,10 +1,9 @@
 ghost use Rattle.std.specs.Prelude.{◌≡◌, ◌+◌, ◌<◌, ◌≤◌, ◌^◌, [], ◌∷◌, ◌++◌, ℕ, length, set, OnOk};
 ghost use Rattle.std.specs.VecDeque.{deque_capacity};
-ghost use Rattle.row_versions.specs.Changing.{AreWithin, changed};
-ghost use Rattle.row_versions.specs.Holdings.{IsHolding, stored};
-ghost use Rattle.row_versions.specs.Prepared.{IsPrepared, stored_back};
+ghost use Rattle.row_versions.specs.Changing.{AreWithin};
+ghost use Rattle.row_versions.specs.Prepared.{IsHeld, IsReady, after, stored_held};
 ghost use Rattle.version_changes.specs.Changes.{begun_count};
-ghost use Rattle.row_versions.specs.Waiting.{AreAlike, HasRoom, HaveRoom, changes_of, ended_after, ends_count, marks_after, marks_back, table_after, table_of, tables_back};
+ghost use Rattle.row_versions.specs.Waiting.{AreAlike, AreMarksBack, AreTablesBack, HasEndedRoom, HasRoom, HaveRoom, changes_of, ended_after, ends_count, marks_after, marks_back, table_after, table_of, tables_back};
 
 use crate::counting::counted;
 use crate::ended::EndedRow;
@@ -37,8 +36,8 @@ pub fn open(
     requires place { change.table < length held.old.tables.items }
     requires marks_place { change.table < length held.old.marks.items }
     requires alike { AreAlike held.old.marks.items held.old.tables.items }
-    ensures tables { tables_back waiting.new.items held.new.tables.items ≡ tables_back waiting.old.items held.old.tables.items }
-    ensures marks { marks_back waiting.new.items held.new.marks.items ≡ marks_back waiting.old.items held.old.marks.items }
+    ensures tables { AreTablesBack waiting.new.items held.new.tables.items waiting.old.items held.old.tables.items }
+    ensures marks { AreMarksBack waiting.new.items held.new.marks.items waiting.old.items held.old.marks.items }
     ensures many { length held.new.tables.items ≡ length held.old.tables.items }
     ensures many_marks { length held.new.marks.items ≡ length held.old.marks.items }
     ensures alike { OnOk result (AreAlike held.new.marks.items held.new.tables.items) }
@@ -80,7 +79,7 @@ pub fn change_one(commit: u64, one: Opened, held: &mut Held)
     requires place { one.change.table < length held.old.tables.items }
     requires marks_place { one.change.table < length held.old.marks.items }
     requires room { HasRoom one }
-    requires ended_room { length held.old.ended.items + length one.change.ends ≤ deque_capacity held.old.ended }
+    requires ended_room { HasEndedRoom one held.old.ended.items (deque_capacity held.old.ended) }
     requires fits { held.old.next + length one.change.begun < 2 ^ 64 }
     ensures tables { held.new.tables.items ≡ set held.old.tables.items one.change.table (table_after one) }
     ensures marks { held.new.marks.items ≡ set held.old.marks.items one.change.table (marks_after commit held.old.next one) }
@@ -181,9 +180,9 @@ pub fn close_all(held: &mut Held, waiting: VecDeque<Opened>)
 
 /// Puts all tables back as they are after the next commit's changes. It takes no memory.
 pub fn change_all(applied: u64, held: &mut Held, waiting: VecDeque<Opened>)
-    requires { IsPrepared waiting.items held.old.ended.items held.old.marks.items held.old.tables.items held.old.next applied (deque_capacity held.old.ended) }
-    ensures stored { stored held.new.ended.items held.new.marks.items held.new.tables.items held.new.next (applied + 1) ≡ changed (changes_of waiting.items) (stored_back waiting.items held.old.ended.items held.old.marks.items held.old.tables.items held.old.next applied) }
-    ensures holding { IsHolding held.new.ended.items held.new.marks.items held.new.tables.items held.new.next (applied + 1) }
+    requires { IsReady waiting.items held.old applied }
+    ensures stored { stored_held held.new (applied + 1) ≡ after waiting.items held.old applied }
+    ensures holding { IsHeld held.new (applied + 1) }
 {
     let commit = applied + 1;
     let mut waiting = waiting;

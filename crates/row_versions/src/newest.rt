@@ -26,7 +26,12 @@ pub fn no_rows(alloc: Global) -> Newest
 }
 
 /// Makes room for so many more rows: in the list itself, or where some end, in the one that takes those that stay.
-pub fn make_room(newest: &mut Newest, kept: &mut Newest, ends: &[usize], more: usize) -> Result<(), Memory>
+pub fn make_room(
+    newest: &mut Newest,
+    kept: &mut Newest,
+    ends: &[usize],
+    more: usize,
+) -> Result<(), Memory>
     requires marked { length newest.old.marks.items ≡ length newest.old.rows.items }
     requires no_rows { kept.old.rows.items ≡ [] }
     requires no_marks { kept.old.marks.items ≡ [] }

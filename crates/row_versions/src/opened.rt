@@ -1,8 +1,8 @@
 ghost use Rattle.std.specs.Prelude.{◌≡◌, ◌+◌, ◌<◌, ◌≤◌, ◌^◌, [], ◌++◌, ℕ, length, OnOk};
 ghost use Rattle.std.specs.VecDeque.{deque_capacity};
-ghost use Rattle.row_versions.specs.Marks.{marks_without, rows_ended};
-ghost use Rattle.row_versions.specs.Room.{HasPlaces, IsRoom};
-ghost use Rattle.row_versions.specs.Waiting.{HasRoom, ended_after, marks_after, table_after, table_of};
+ghost use Rattle.row_versions.specs.Marks.{marks_without};
+ghost use Rattle.row_versions.specs.Room.{AreEndedBehind, HasPlacesFor, IsRoom, IsRoomFor};
+ghost use Rattle.row_versions.specs.Waiting.{HasEndedRoom, HasRoom, ended_after, marks_after, table_after, table_of};
 ghost use Rattle.table_changes.specs.Changes.{rows_without};
 
 use crate::ended::EndedRow;
@@ -34,7 +34,10 @@ pub fn taken_out(alloc: Global, change: TableChange, table: TableRows, marks: Li
     ensures rows { result.kept.rows.items ≡ [] }
     ensures kept_marks { result.kept.marks.items ≡ [] }
 {
-    let TableRows { table: number, rows } = table;
+    let TableRows {
+        table: number,
+        rows,
+    } = table;
     let VTable { columns, rows } = rows;
     Opened {
         change,
@@ -59,7 +62,12 @@ pub fn give_room(one: &mut Opened) -> Result<(), Memory>
     ensures room { OnOk result (HasRoom one.new) }
 {
     let more = one.change.begun.len();
-    make_room(&mut one.newest, &mut one.kept, one.change.ends.as_slice(), more)
+    make_room(
+        &mut one.newest,
+        &mut one.kept,
+        one.change.ends.as_slice(),
+        more,
+    )
 }
 
 /// The table as it was, and its marks.
@@ -103,7 +111,7 @@ pub fn changed(
     ended: &mut VecDeque<EndedRow>,
 ) -> (TableRows, List<Mark>)
     requires room { HasRoom one }
-    requires ended_room { length ended.old.items + length one.change.ends ≤ deque_capacity ended.old }
+    requires ended_room { HasEndedRoom one ended.old.items (deque_capacity ended.old) }
     requires fits { next + length one.change.begun < 2 ^ 64 }
     ensures table { result.0 ≡ table_after one }
     ensures marks { result.1 ≡ marks_after commit next one }
@@ -137,9 +145,9 @@ fn staying(
     requires ended_room { length ended.old.items + length ends.now ≤ deque_capacity ended.old }
     ensures rows { result.rows.items ≡ rows_without 0 ends.now newest.rows.items }
     ensures marks { result.marks.items ≡ marks_without 0 ends.now newest.marks.items }
-    ensures ended { ended.new.items ≡ ended.old.items ++ rows_ended commit table 0 ends.now newest.marks.items newest.rows.items }
+    ensures ended { AreEndedBehind commit table ends.now newest ended.old.items ended.new.items }
     ensures marked { length result.marks.items ≡ length result.rows.items }
-    ensures room { (more : ℕ) → IsRoom ends.now (length newest.rows.items + more) newest kept → HasPlaces (length result.rows.items + more) result }
+    ensures room { (more : ℕ) → IsRoomFor more ends.now newest kept → HasPlacesFor more result }
     ensures ended_room { deque_capacity ended.new ≡ deque_capacity ended.old }
 {
     if ends.is_empty() {

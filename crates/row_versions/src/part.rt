@@ -1,6 +1,7 @@
 ghost use Rattle.std.specs.Prelude.{◌≡◌, ◌+◌, ◌<◌, ◌≤◌, [], ◌∷◌, ◌++◌, true, length, vec_capacity, if◌then◌else◌};
 ghost use Rattle.std.specs.VecDeque.{deque_capacity};
-ghost use Rattle.row_versions.specs.Marks.{end_row, is_end, marks_without, rows_ended};
+ghost use Rattle.row_versions.specs.Marks.{end_row, is_end, marks_without};
+ghost use Rattle.row_versions.specs.Room.{AreEndedBehind};
 ghost use Rattle.table_changes.specs.Changes.{rows_without};
 ghost use Rattle.version_changes.specs.Changes.{ends_behind};
 
@@ -28,7 +29,7 @@ pub fn part(
     requires ended_room { length ended.old.items + length ends.now ≤ deque_capacity ended.old }
     ensures rows { kept.new.rows.items ≡ rows_without 0 ends.now newest.rows.items }
     ensures marks { kept.new.marks.items ≡ marks_without 0 ends.now newest.marks.items }
-    ensures ended { ended.new.items ≡ ended.old.items ++ rows_ended commit table 0 ends.now newest.marks.items newest.rows.items }
+    ensures ended { AreEndedBehind commit table ends.now newest ended.old.items ended.new.items }
     ensures room { vec_capacity kept.new.rows ≡ vec_capacity kept.old.rows }
     ensures marks_room { vec_capacity kept.new.marks ≡ vec_capacity kept.old.marks }
     ensures ended_room { deque_capacity ended.new ≡ deque_capacity ended.old }
@@ -64,13 +65,7 @@ fn ends_behind(place: usize, ends: &[usize]) -> &[usize]
     ensures { result.now ≡ ends_behind place ends.now }
 {
     match ends.split_first() {
-        Some((end, more)) => {
-            if *end == place {
-                more
-            } else {
-                ends
-            }
-        }
+        Some((end, more)) => { if *end == place { more } else { ends } }
         None => ends,
     }
 }

@@ -1,8 +1,5 @@
-ghost use Rattle.std.specs.Prelude.{◌≡◌, ◌+◌, length};
-ghost use Rattle.std.specs.VecDeque.{deque_capacity};
-ghost use Rattle.row_versions.specs.Changing.{changed};
-ghost use Rattle.row_versions.specs.Prepared.{IsPrepared, stored_back};
-ghost use Rattle.row_versions.specs.Waiting.{changes_of};
+ghost use Rattle.std.specs.Prelude.{◌≡◌};
+ghost use Rattle.row_versions.specs.Prepared.{IsReady, after, before};
 
 use crate::held::{Held, change_all, close_all};
 use crate::opened::Opened;
@@ -21,28 +18,25 @@ pub struct Prepared {
 impl Model for Prepared {
     ghost use Rattle.std.specs.Coded.{codes};
     ghost use Rattle.feature_expr.specs.contracts.expr.Expr as e;
-    ghost use Rattle.std.specs.VecDeque.{deque_capacity};
-    ghost use Rattle.row_versions.specs.Changing.{changed};
-    ghost use Rattle.row_versions.specs.Prepared.{IsPrepared, stored_back};
+    ghost use Rattle.row_versions.specs.Prepared.{IsReady, after, before};
     ghost use Rattle.row_versions.specs.Stored.{Stored};
-    ghost use Rattle.row_versions.specs.Waiting.{changes_of};
 
     ghost Value = { Stored × Stored };
 
     ghost coded = { Prim.hlevel (codes, e.the_row.coded) };
 
     // as they are, and as they will be
-    ghost view = { λ it. (stored_back it.waiting.items it.held.ended.items it.held.marks.items it.held.tables.items it.held.next it.applied, changed (changes_of it.waiting.items) (stored_back it.waiting.items it.held.ended.items it.held.marks.items it.held.tables.items it.held.next it.applied)) };
+    ghost view = { λ it. (before it.waiting.items it.held it.applied, after it.waiting.items it.held it.applied) };
 
-    ghost invariant = { λ it. IsPrepared it.waiting.items it.held.ended.items it.held.marks.items it.held.tables.items it.held.next it.applied (deque_capacity it.held.ended) };
+    ghost invariant = { λ it. IsReady it.waiting.items it.held it.applied };
 }
 
 impl Prepared {
     /// Changes that wait, with all that is to be done.
     pub(crate) fn of(held: Held, waiting: VecDeque<Opened>, applied: u64) -> Prepared
-        requires { IsPrepared waiting.items held.ended.items held.marks.items held.tables.items held.next applied (deque_capacity held.ended) }
-        ensures before { result.0 ≡ stored_back waiting.items held.ended.items held.marks.items held.tables.items held.next applied }
-        ensures after { result.1 ≡ changed (changes_of waiting.items) (stored_back waiting.items held.ended.items held.marks.items held.tables.items held.next applied) }
+        requires { IsReady waiting.items held applied }
+        ensures before { result.0 ≡ before waiting.items held applied }
+        ensures after { result.1 ≡ after waiting.items held applied }
     {
         Prepared {
             held,

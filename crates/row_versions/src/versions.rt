@@ -1,6 +1,7 @@
 ghost use Rattle.std.specs.Prelude.{◌≡◌, [], length, IfErr, IfOk};
 ghost use Rattle.row_versions.specs.Changing.{AreChangesOf, IsChanged};
-ghost use Rattle.row_versions.specs.Holdings.{IsHolding, IsKept, stored};
+ghost use Rattle.row_versions.specs.Holdings.{IsKept};
+ghost use Rattle.row_versions.specs.Prepared.{IsHeld, stored_held};
 ghost use Rattle.row_versions.specs.Openings.{AreCounted};
 ghost use Rattle.row_versions.specs.Stored.{newest_tables, opened};
 ghost use Rattle.table_changes.specs.Changes.{RiseFrom};
@@ -82,8 +83,8 @@ impl RowVersions {
 
     /// What is held, as versions.
     pub(crate) fn of(held: Held, applied: u64) -> RowVersions
-        requires { IsHolding held.ended.items held.marks.items held.tables.items held.next applied }
-        ensures { result ≡ stored held.ended.items held.marks.items held.tables.items held.next applied }
+        requires { IsHeld held applied }
+        ensures { result ≡ stored_held held applied }
     {
         let Held {
             tables,

@@ -1,5 +1,5 @@
 -- Each table's newest rows after changes of tables.
-use Rattle.std.proofs.Common.{◌≡◌, ℕ, ◌+◌, ◌<◌, ◌≤◌, ◌==◌, Bool, true, false, cond, ◌&&◌, if◌then◌else◌, List, [], ◌∷◌, ◌++◌, map, filter, length, None, refl, sym, ◌∙◌, ap, ap₂, subst, append-nil, arith}
+use Rattle.std.proofs.Common.{◌≡◌, ℕ, ◌+◌, ◌<◌, ◌==◌, Bool, true, false, cond, ◌&&◌, if◌then◌else◌, List, [], ◌∷◌, ◌++◌, map, filter, length, None, refl, sym, ◌∙◌, ap, ap₂, subst, append-nil, arith}
 use Rattle.std.proofs.lemmas.Bool.Decides.{nat_tests}
 use Rattle.std.proofs.lemmas.List.{map-append}
 use Rattle.std.proofs.lemmas.List.Elements.{filter-append}
@@ -68,7 +68,6 @@ here_by : (number k : ℕ) (v : Version) (b : Bool) → (v.table == number) ≡ 
 here_by number k v true h = ap (λ b. b && false) h
 here_by number k v false h = ap (λ b. b && is_open v.ends) h
 
-
 here_other : (number k place : ℕ) (ends : List ℕ) (v : Version) → (v.table == number) ≡ false → is_newest number (ended_here k place ends v) ≡ false
 here_other number k place [] v h = here_by number k v false h
 here_other number k place (e ∷ ends) v h = here_by number k v (e == place) h
@@ -92,7 +91,6 @@ ends_other number table k place ends (v ∷ versions) h =
     other_by number k place ends v versions (with_ends table k (place + 1) (ends_behind place ends) versions) (with_ends table k place ends versions) (is_newest table v)
     (λ is. apart v.table table number (and_left (v.table == table) (is_open v.ends) is) h)
     (ends_other number table k (place + 1) (ends_behind place ends) versions h) (ends_other number table k place ends versions h)
-
 
 -- rows that begin
 

@@ -1,11 +1,11 @@
 -- Changes of versions, and their order.
-use Rattle.std.proofs.Common.{◌≡◌, ℕ, ◌+◌, ◌<◌, ◌≤◌, ◌==◌, Bool, true, false, true≢false, cond, if◌then◌else◌, List, [], ◌∷◌, ◌++◌, filter, nat_le, refl, sym, ◌∙◌, ap, ap₂, subst, arith}
+use Rattle.std.proofs.Common.{◌≡◌, ℕ, ◌+◌, ◌<◌, ◌≤◌, Bool, true, false, true≢false, cond, if◌then◌else◌, List, [], ◌∷◌, filter, nat_le, refl, sym, ◌∙◌, ap, subst, arith}
 use Rattle.std.proofs.lemmas.Bool.Decides.{nat_tests}
 use Rattle.version_changes.proofs.NumberLaws.{here_number}
 use Rattle.version_changes.specs.Changes.{ended_here, ends_behind, with_ends}
 use Rattle.version_lists.proofs.BlockLaws.{already}
 use Rattle.version_lists.proofs.OrderLaws.{filter_in_order}
-use Rattle.version_lists.specs.Orders.{AreLower, in_order, put}
+use Rattle.version_lists.specs.Orders.{in_order, put}
 use Rattle.version_lists.specs.Versions.{AreNumbered, Version, is_newest}
 
 -- Ends are the same before and behind the order, where the newest rows of the table are held in the order of their numbers.

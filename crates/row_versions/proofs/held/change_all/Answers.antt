@@ -19,10 +19,11 @@ loop-one-preserved c =
     let all : Stored = changed (changes_of c.args.waiting.items) (stored_back c.args.waiting.items first.ended.items first.marks.items first.tables.items first.next c.args.applied) in
     let held = c.loop-one.held in
     let new = c.change_one.new.held in
-    let is = c.change_one.ensures in
-    (changing_step (c.args.applied + 1) c.in-Some.one c.loop-one.waiting.items c.pop_front.new.self.items held.ended.items new.ended.items held.marks.items new.marks.items held.tables.items new.tables.items held.next new.next
-    (deque_capacity first.ended) all.versions all.next all.columns c.loop-one.invariant.0 c.in-Some.ensures.items is.ended is.marks is.tables is.next,
-    is.ended_room ∙ c.loop-one.invariant.1)
+    let is = c.change_one.ensures in (
+      changing_step (c.args.applied + 1) c.in-Some.one c.loop-one.waiting.items c.pop_front.new.self.items held.ended.items new.ended.items held.marks.items new.marks.items held.tables.items new.tables.items held.next new.next
+          (deque_capacity first.ended) all.versions all.next all.columns c.loop-one.invariant.0 c.in-Some.ensures.items is.ended is.marks is.tables is.next,
+      is.ended_room ∙ c.loop-one.invariant.1,
+    )
 
 pub returns-clause-holding : goal.returns-clause-holding
 returns-clause-holding c =

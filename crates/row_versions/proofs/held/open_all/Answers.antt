@@ -29,10 +29,19 @@ loop-change-preserved c =
     let rest = changes_of c.loop-change.waiting.items in
     let n = length c.args.held.now.tables.items in
     let within = within_last n left last (subst (AreWithin n) c.in-Some.ensures before.5) in
-    let after = c.in_ok-open.ensures in
-    (after.tables ∙ before.0, after.marks ∙ before.1, after.many ∙ before.2, after.many_marks ∙ before.3, after.alike, within.0, after.within n within.1 before.6,
-    ap (λ xs. left ++ xs) after.changes ∙ sym (append_assoc left (last ∷ []) rest) ∙ ap (λ xs. xs ++ rest) (sym c.in-Some.ensures) ∙ before.7,
-    after.room before.8, after.ended ∙ before.9, after.next ∙ before.10)
+    let after = c.in_ok-open.ensures in (
+      after.tables ∙ before.0,
+      after.marks ∙ before.1,
+      after.many ∙ before.2,
+      after.many_marks ∙ before.3,
+      after.alike,
+      within.0,
+      after.within n within.1 before.6,
+      ap (λ xs. left ++ xs) after.changes ∙ sym (append_assoc left (last ∷ []) rest) ∙ ap (λ xs. xs ++ rest) (sym c.in-Some.ensures) ∙ before.7,
+      after.room before.8,
+      after.ended ∙ before.9,
+      after.next ∙ before.10,
+    )
 
 pub returns-in_err-open-clause-within : goal.returns-in_err-open-clause-within
 returns-in_err-open-clause-within c =

@@ -1,4 +1,4 @@
-use Rattle.std.proofs.Common.{◌≡◌, ◌+◌, ◌≤◌, length, vec_capacity, sym, ◌∙◌, ap, subst, arith}
+use Rattle.std.proofs.Common.{◌+◌, ◌≤◌, length, vec_capacity, sym, ◌∙◌, subst, arith}
 use Rattle.row_versions.proofs.RoomLaws.{room_parted, room_whole}
 use Rattle.row_versions.proofs.newest.make_room.Goals as goal
 

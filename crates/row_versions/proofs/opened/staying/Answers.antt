@@ -1,4 +1,4 @@
-use Rattle.std.proofs.Common.{◌≡◌, ◌+◌, ◌≤◌, length, vec_capacity, sym, ◌∙◌, ap, arith}
+use Rattle.std.proofs.Common.{◌+◌, length, sym, ◌∙◌, ap, arith}
 use Rattle.row_versions.proofs.PartLaws.{ended_stay, fewer, marks_stay, rows_stay, still_marked}
 use Rattle.row_versions.proofs.RoomLaws.{room_left}
 use Rattle.row_versions.proofs.opened.staying.Goals as goal
