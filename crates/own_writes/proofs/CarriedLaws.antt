@@ -30,7 +30,7 @@ from_stays : (writes : List Write) (catalog : Catalog) → catalog_from catalog 
 from_stays [] catalog = refl
 from_stays (w ∷ writes) catalog = from_stays writes (catalog_after catalog w) ∙ after_stays catalog w
 
-here_is : (opening : Opening) (commits : List Commit) (before : List Write) → catalog_at opening commits before ≡ opening.catalog
+pub here_is : (opening : Opening) (commits : List Commit) (before : List Write) → catalog_at opening commits before ≡ opening.catalog
 here_is opening commits before = from_stays (taken_writes opening commits ++ before) opening.catalog
 
 first_taken : (a b : Bool) → (a && b) ≡ true → a ≡ true
@@ -72,7 +72,7 @@ carries_written model tables number table w old new found this made = record {
 }
 
 -- no write
-carries_none : (model : Expr) (tables : List Table) (number : ℕ) (table : Table) (rows : List VRow) → Carries model tables number table [] rows rows
+pub carries_none : (model : Expr) (tables : List Table) (number : ℕ) (table : Table) (rows : List VRow) → Carries model tables number table [] rows rows
 carries_none model tables number table rows = record {
   view = λ opening commits before m t taken view. subst (λ writes. IsStoredView opening commits writes number table rows) (sym (append-nil before)) view;
 }

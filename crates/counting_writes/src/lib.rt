@@ -1,0 +1,6 @@
+//! Those of another's writes that count.
+#![tactic(auto)]
+
+mod counting;
+
+pub use counting::counting_writes;
