@@ -1,0 +1,4 @@
+pub mod LinkLaws
+pub mod NeededLaws
+pub mod OnlyLaws
+pub mod PassingLaws
