@@ -1,7 +1,6 @@
 pub mod CodeLaws
 pub mod FilterLaws
 pub mod UnionLaws
-pub mod KeyLaws
 pub mod PlaceLaws
 pub mod ChoiceLaws
 pub mod ExceptLaws

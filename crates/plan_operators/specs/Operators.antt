@@ -10,6 +10,7 @@ use Rattle.feature_expr.specs.declared.expr.Expr.{Expr}
 use Rattle.feature_expr.specs.declared.expr.Expr as e
 use Rattle.values.specs.declared.value.Value.{Value}
 use Rattle.plain_relation.specs.Values.{value_cmp}
+use Rattle.row_places.specs.Places.{AreKeyed}
 use Rattle.row_conditions.specs.Truths.{Slot, slots_of, truth_of}
 use Rattle.vra_syntax.specs.declared.cond.Cond.{Cond}
 use Rattle.vtable.specs.TableForm.{same_cells}
@@ -78,20 +79,9 @@ matching left right =
     let keys = sure_columns (any_of right.columns) right.columns in
     matched right.columns left (rows_with keys right.columns (laid_cells keys left) right.rows)
 
--- ---- places of rows by their cells in some columns
-
--- the places under some cells
-abbrev pub places_under : List (Option Value) → List (List (Option Value) × List ℕ) → List ℕ
-places_under key [] = []
-places_under key (e ∷ es) = if same_cells key e.0 then e.1 else places_under key es
-
-abbrev pub places_or_none : Option (Vec ℕ) → List ℕ
-places_or_none None = []
-places_or_none (Some places) = places.items
-
 -- under each list of cells stand the places of the rows that have them
 abbrev pub ArePlaces : List VColumn → List VColumn → List VRow → List (List (Option Value) × List ℕ) → Type 0
-ArePlaces keys columns rows places = (key : Vec (Option Value)) → filter_map (slice_get rows) (places_under key.items places) ≡ rows_with keys columns key.items rows
+ArePlaces keys columns rows places = AreKeyed (λ (row : VRow). laid_cells keys (slots_of columns row.cells)) rows places
 
 abbrev pub row_without : List VColumn → VTable → VRow → Option VRow
 row_without columns right row =

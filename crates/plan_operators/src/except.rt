@@ -4,14 +4,15 @@ ghost use Rattle.std.specs.List.{filter_map};
 ghost use Rattle.std.specs.Option.{option_copied, option_to_list};
 ghost use Rattle.feature_expr.specs.Expressions.{and_of, not_of};
 ghost use Rattle.plan_tables.specs.Tables.{any_of, cell_under, heading, laid_cells};
-ghost use Rattle.plan_operators.specs.Operators.{ArePlaces, alike, excepted_table, is_sure, matched, matching, places_under, row_without, same_cell, sure_columns, with_alike, with_match};
+ghost use Rattle.plan_operators.specs.Operators.{ArePlaces, alike, excepted_table, is_sure, matched, matching, row_without, same_cell, sure_columns, with_alike, with_match};
 ghost use Rattle.row_conditions.specs.Truths.{slots_of};
+ghost use Rattle.row_places.specs.Places.{places_under};
 ghost use Rattle.values.specs.declared.value.Value.{Value as TheValue};
 ghost use Rattle.vtable.specs.TableForm.{same_cells};
 
-use crate::places::Places;
 use feature_expr::{Expr, and, is_same_expr, not, or};
 use plan_tables::{any_of, is_same_column, is_true, laid_cells, put_copied};
+use row_places::Places;
 use std::alloc::Global;
 use values::{List, Memory, TryCopy, Value};
 use vtable::{VColumn, VRow, VTable};

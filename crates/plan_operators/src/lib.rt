@@ -4,7 +4,6 @@
 mod choice;
 mod except;
 mod filter;
-mod places;
 mod union;
 
 pub use choice::chosen;

@@ -1,7 +1,8 @@
 use Rattle.std.proofs.Common.{◌≡◌, Option, slice_get, take}
 use Rattle.std.specs.Global.{Vec}
 use Rattle.std.specs.List.{filter_map}
-use Rattle.plan_operators.specs.Operators.{places_under, rows_with}
+use Rattle.plan_operators.specs.Operators.{rows_with}
+use Rattle.row_places.specs.Places.{places_under}
 use Rattle.values.specs.declared.value.Value.{Value}
 use Rattle.plan_operators.proofs.except.places_of.Given as goal
 

@@ -1,7 +1,7 @@
 use Rattle.std.proofs.Common.{ap, sym, ◌∙◌}
-use Rattle.plan_operators.proofs.PlaceLaws.{added_under}
-use Rattle.plan_operators.specs.Operators.{places_under}
-use Rattle.plan_operators.proofs.places.Places.add.Goals as goal
+use Rattle.row_places.proofs.PlaceLaws.{added_under}
+use Rattle.row_places.specs.Places.{places_under}
+use Rattle.row_places.proofs.places.Places.add.Goals as goal
 
 pub returns : goal.returns
 returns c = λ key.

@@ -1,8 +1,8 @@
 use Rattle.std.proofs.Common.{ap, sym, ◌∙◌}
 use Rattle.std.specs.Option.{option_copied}
-use Rattle.plan_operators.proofs.PlaceLaws.{found_under, none_under}
-use Rattle.plan_operators.specs.Operators.{places_under}
-use Rattle.plan_operators.proofs.places.Places.find.Goals as goal
+use Rattle.row_places.proofs.PlaceLaws.{found_under, none_under}
+use Rattle.row_places.specs.Places.{places_under}
+use Rattle.row_places.proofs.places.Places.find.Goals as goal
 
 pub returns-in-Some : goal.returns-in-Some
 returns-in-Some c =

@@ -1,8 +1,8 @@
 use Rattle.std.proofs.Common.{[], if◌then◌else◌, ap, sym, ◌∙◌}
-use Rattle.plan_operators.proofs.PlaceLaws.{taken_under, under_updated}
-use Rattle.plan_operators.specs.Operators.{places_under}
+use Rattle.row_places.proofs.PlaceLaws.{taken_under, under_updated}
+use Rattle.row_places.specs.Places.{places_under}
 use Rattle.vtable.specs.TableForm.{same_cells}
-use Rattle.plan_operators.proofs.places.Places.take.Goals as goal
+use Rattle.row_places.proofs.places.Places.take.Goals as goal
 
 pub returns-clause-taken : goal.returns-clause-taken
 returns-clause-taken c =

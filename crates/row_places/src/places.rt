@@ -1,6 +1,6 @@
 ghost use Rattle.std.specs.Prelude.{◌≡◌, [], ◌∷◌, ◌++◌, if◌then◌else◌, Option as Maybe, OnOk};
 ghost use Rattle.std.specs.Global.{Vec as TheVec};
-ghost use Rattle.plan_operators.specs.Operators.{places_or_none, places_under};
+ghost use Rattle.row_places.specs.Places.{places_or_none, places_under};
 ghost use Rattle.vtable.specs.TableForm.{same_cells};
 ghost use Rattle.values.specs.declared.value.Value.{Value as TheValue};
 
