@@ -3,7 +3,7 @@ use Rattle.std.proofs.Common.{◌≡◌, ◌∙◌, ℕ, zero, suc, ◌&&◌, �
 use Rattle.std.specs.List.{list_any}
 use Rattle.std.specs.declared.cmp.Ordering.{Ordering}
 use Rattle.std.specs.declared.cmp.Ordering.TheVariants.{Less, Equal, Greater}
-use Rattle.feature_expr.specs.Expressions.{and_of, or_of}
+use Rattle.feature_expr.specs.Expressions.{and_of}
 use Rattle.feature_expr.specs.declared.expr.Expr.{Expr}
 use Rattle.feature_expr.specs.declared.expr.Expr as e
 use Rattle.key_links.proofs.NeededLaws.{and_none, truth_cmp}
@@ -14,14 +14,13 @@ use Rattle.key_links.specs.declared.columns.ColumnLink.{ColumnLink}
 use Rattle.plain_relation.specs.Relations.{same_name}
 use Rattle.plain_relation.specs.Values.{same_kind, value_cmp}
 use Rattle.plan_tables.proofs.WeightLaws.{or_none}
-use Rattle.relational_algebra.specs.Values.{compares_values, meets_op}
-use Rattle.row_conditions.specs.Truths.{Slot, comparing, left_test, pairing, passes, passing, slots_of, truth_of, with_pairs, with_pairs_of}
+use Rattle.relational_algebra.specs.Values.{meets_op}
+use Rattle.row_conditions.specs.Truths.{Slot, left_test, pairing, passes, passing, slots_of, with_pairs, with_pairs_of}
 use Rattle.row_conditions.proofs.NameLaws.{name_is}
 use Rattle.values.specs.Value.{kind_of}
 use Rattle.values.specs.declared.column_name.ColName.{ColName}
 use Rattle.values.specs.declared.value.Value.{Value}
 use Rattle.vra_syntax.specs.declared.cond.Cond.{Cond}
-use Rattle.vra_syntax.specs.declared.cond.Cond as cond
 use Rattle.vra_syntax.specs.declared.cond.Op.TheVariants as op
 use Rattle.vra_syntax.specs.declared.cond.Operand.TheVariants as operand
 use Rattle.vtable.proofs.CellLaws.{same_cells_self, value_is}
@@ -38,18 +37,18 @@ equal_is : (v w : Value) → is_equal v w ≡ true → v ≡ w
 equal_is v w h = equal_by v w (same_kind (kind_of v) (kind_of w)) (value_cmp v w) refl h
 
 -- different cells don't compare
-different_by : (v w : Value) (b : Bool) → is_equal v w ≡ b → same_cells (Some v ∷ []) (Some w ∷ []) ≡ false → b ≡ false
-different_by v w true is h = absurd (true≢false (sym (subst (λ x. same_cells (Some v ∷ []) (Some x ∷ []) ≡ true) (equal_is v w is) (same_cells_self (Some v ∷ []))) ∙ h))
+different_by : (v w : Value) (b : Bool) → is_equal v w ≡ b → same_cells (Some w ∷ []) (Some v ∷ []) ≡ false → b ≡ false
+different_by v w true is h = absurd (true≢false (sym (subst (λ x. same_cells (Some x ∷ []) (Some v ∷ []) ≡ true) (equal_is v w is) (same_cells_self (Some v ∷ []))) ∙ h))
 different_by v w false is h = refl
 
-different : (v w : Value) → same_cells (Some v ∷ []) (Some w ∷ []) ≡ false → is_equal v w ≡ false
+different : (v w : Value) → same_cells (Some w ∷ []) (Some v ∷ []) ≡ false → is_equal v w ≡ false
 different v w h = different_by v w (is_equal v w) refl h
 
-turned_by : (v w : Value) (b : Bool) → is_equal w v ≡ b → same_cells (Some v ∷ []) (Some w ∷ []) ≡ false → b ≡ false
-turned_by v w true is h = absurd (true≢false (sym (subst (λ x. same_cells (Some x ∷ []) (Some w ∷ []) ≡ true) (equal_is w v is) (same_cells_self (Some w ∷ []))) ∙ h))
+turned_by : (v w : Value) (b : Bool) → is_equal w v ≡ b → same_cells (Some w ∷ []) (Some v ∷ []) ≡ false → b ≡ false
+turned_by v w true is h = absurd (true≢false (sym (subst (λ x. same_cells (Some w ∷ []) (Some x ∷ []) ≡ true) (equal_is w v is) (same_cells_self (Some w ∷ []))) ∙ h))
 turned_by v w false is h = refl
 
-turned : (v w : Value) → same_cells (Some v ∷ []) (Some w ∷ []) ≡ false → is_equal w v ≡ false
+turned : (v w : Value) → same_cells (Some w ∷ []) (Some v ∷ []) ≡ false → is_equal w v ≡ false
 turned v w h = turned_by v w (is_equal w v) refl h
 
 -- a name that a column has is none that no column has
@@ -96,12 +95,12 @@ module _ (one other : ColName) (slots : List Slot) where
   adds_none column cell none = adds_by column cell (is_named one column) refl none
 
 module _ (one other : ColName) (left right : List VColumn) (link : ColumnLink) (places : ArePlacesOf one other left right link) (cells others : List (Option Value))
-    (differs : same_cells (cell_at link.left cells ∷ []) (cell_at link.right others ∷ []) ≡ false) where
+    (differs : same_cells (cell_at link.right others ∷ []) (cell_at link.left cells ∷ []) ≡ false) where
   abbrev both : List Slot
   both = slots_of left cells ++ slots_of right others
 
-  values_differ : (v w : Value) → slice_get cells link.left ≡ Some (Some v) → slice_get others link.right ≡ Some (Some w) → same_cells (Some v ∷ []) (Some w ∷ []) ≡ false
-  values_differ v w is are = subst (λ y. same_cells (Some v ∷ []) (y ∷ []) ≡ false) (found others link.right w are) (subst (λ x. same_cells (x ∷ []) (cell_at link.right others ∷ []) ≡ false) (found cells link.left v is) differs)
+  values_differ : (v w : Value) → slice_get cells link.left ≡ Some (Some v) → slice_get others link.right ≡ Some (Some w) → same_cells (Some w ∷ []) (Some v ∷ []) ≡ false
+  values_differ v w is are = subst (λ y. same_cells (y ∷ []) (Some v ∷ []) ≡ false) (found others link.right w are) (subst (λ x. same_cells (cell_at link.right others ∷ []) (x ∷ []) ≡ false) (found cells link.left v is) differs)
 
   right_fails : (v : Value) → slice_get cells link.left ≡ Some (Some v) → (cell : Option Value) → slice_get others link.right ≡ Some cell → passes (left_test op.Eq v) cell ≡ false
   right_fails v is None are = refl
@@ -127,29 +126,33 @@ module _ (one other : ColName) (left right : List VColumn) (link : ColumnLink) (
   pairing_none =
       fold_append (with_pairs one op.Eq other both) e.False (slots_of left cells) (slots_of right others)
       ∙ ap (λ x. fold (with_pairs one op.Eq other both) x (slots_of right others))
-        (one_named (with_pairs one op.Eq other both) one (skips one other both) link.left left cells e.False places.first
-          (λ column cell is. adds_none one other both column cell (λ v has. none_right v (is ∙ ap Some has))))
+      (one_named (with_pairs one op.Eq other both) one (skips one other both) link.left left cells e.False places.first
+      (λ column cell is. adds_none one other both column cell (λ v has. none_right v (is ∙ ap Some has))))
       ∙ none_named (with_pairs one op.Eq other both) one (skips one other both) right others e.False places.not_right
 
   pairing_turned : pairing other op.Eq one both e.False both ≡ e.False
   pairing_turned =
       fold_append (with_pairs other op.Eq one both) e.False (slots_of left cells) (slots_of right others)
       ∙ ap (λ x. fold (with_pairs other op.Eq one both) x (slots_of right others))
-        (none_named (with_pairs other op.Eq one both) other (skips other one both) left cells e.False places.not_left)
+      (none_named (with_pairs other op.Eq one both) other (skips other one both) left cells e.False places.not_left)
       ∙ one_named (with_pairs other op.Eq one both) other (skips other one both) link.right right others e.False places.second
-          (λ column cell is. adds_none other one both column cell (λ w has. none_left w (is ∙ ap Some has)))
+      (λ column cell is. adds_none other one both column cell (λ w has. none_left w (is ∙ ap Some has)))
 
 -- a comparison of two columns, the left side's first
 pub linked : (one other : ColName) (left right : List VColumn) (link : ColumnLink) → ArePlacesOf one other left right link → IsColumnLink (equals_column one other) left right link
-linked one other left right link places = record { nowhere = λ cells others differs.
-    truth_cmp (slots_of left cells ++ slots_of right others) (operand.Column one) (operand.Column other)
-    ∙ rw (apart one other link.left left places.first places.not_left) (pairing_none one other left right link places cells others differs) }
+linked one other left right link places = record {
+  nowhere = λ cells others differs.
+      truth_cmp (slots_of left cells ++ slots_of right others) (operand.Column one) (operand.Column other)
+      ∙ rw (apart one other link.left left places.first places.not_left) (pairing_none one other left right link places cells others differs);
+}
 
 -- and the right side's first
 pub linked_turned : (one other : ColName) (left right : List VColumn) (link : ColumnLink) → ArePlacesOf one other left right link → IsColumnLink (equals_column other one) left right link
-linked_turned one other left right link places = record { nowhere = λ cells others differs.
-    truth_cmp (slots_of left cells ++ slots_of right others) (operand.Column other) (operand.Column one)
-    ∙ rw (apart other one link.right right places.second places.not_right) (pairing_turned one other left right link places cells others differs) }
+linked_turned one other left right link places = record {
+  nowhere = λ cells others differs.
+      truth_cmp (slots_of left cells ++ slots_of right others) (operand.Column other) (operand.Column one)
+      ∙ rw (apart other one link.right right places.second places.not_right) (pairing_turned one other left right link places cells others differs);
+}
 
 -- a link of a part is one of the whole
 pub linked_part : (whole part : Cond) (left right : List VColumn) (link : ColumnLink) → IsPart whole part → IsColumnLink part left right link → IsColumnLink whole left right link

@@ -1,6 +1,5 @@
 -- Links with a value.
 use Rattle.std.proofs.Common.{◌≡◌, ◌∙◌, ℕ, Bool, true, false, ◌&&◌, List, [], ◌∷◌, ◌++◌, refl, sym, ap, subst, rules, Option, Some, None, slice_get}
-use Rattle.std.specs.List.{list_all}
 use Rattle.feature_expr.specs.Expressions.{and_left, and_of}
 use Rattle.feature_expr.specs.declared.expr.Expr.{Expr, out-Expr}
 use Rattle.feature_expr.specs.declared.expr.Expr.TheOpen.{Expr-F}
@@ -88,8 +87,12 @@ all_append (one ∷ links) link cells = ap (λ b. has_value cells one.place one.
 -- one link more
 pub one_needed : (name : ColName) (value : Value) (place : ℕ) (columns : List VColumn) (old : List ValueLink) → is_only_at name place columns ≡ true
     → PutsNeeded (equals_value name value) columns old (old ++ record { place = place; value = value } ∷ [])
-one_needed name value place columns old only = record { still = λ whole part needed. record { nowhere = λ cells h.
-    one_false (meets_links old cells) (has_value cells place value) (truth_of (slots_of columns cells) whole ≡ e.False)
-    (sym (all_append old (record { place = place; value = value }) cells) ∙ h)
-    (λ not_old. needed.nowhere cells not_old)
-    (λ not_new. part.nowhere (slots_of columns cells) (truth_cmp (slots_of columns cells) (operand.Column name) (operand.Literal value) ∙ one_fails name (right_test op.Eq value) place columns cells e.False only (λ cell is. fails_at cells place value (slice_get cells place) cell not_new is))) } }
+one_needed name value place columns old only = record {
+  still = λ whole part needed. record {
+    nowhere = λ cells h.
+        one_false (meets_links old cells) (has_value cells place value) (truth_of (slots_of columns cells) whole ≡ e.False)
+        (sym (all_append old (record { place = place; value = value }) cells) ∙ h)
+        (λ not_old. needed.nowhere cells not_old)
+        (λ not_new. part.nowhere (slots_of columns cells) (truth_cmp (slots_of columns cells) (operand.Column name) (operand.Literal value) ∙ one_fails name (right_test op.Eq value) place columns cells e.False only (λ cell is. fails_at cells place value (slice_get cells place) cell not_new is)));
+  };
+}

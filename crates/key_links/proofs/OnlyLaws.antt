@@ -1,5 +1,5 @@
 -- A column that alone has its name.
-use Rattle.std.proofs.Common.{◌≡◌, ◌∙◌, ℕ, zero, suc, ◌+◌, Bool, true, false, not, ◌&&◌, ◌||◌, List, [], ◌∷◌, refl, sym, ap, subst, arith, rules, Option, Some, None, fold, slice_get}
+use Rattle.std.proofs.Common.{◌≡◌, ◌∙◌, ℕ, zero, suc, ◌+◌, Bool, true, false, not, ◌&&◌, ◌||◌, List, [], ◌∷◌, refl, sym, ap, arith, rules, Option, Some, fold, slice_get}
 use Rattle.std.specs.List.{list_any}
 use Rattle.feature_expr.specs.declared.expr.Expr.{Expr}
 use Rattle.key_links.specs.KeyLinks.{is_named, is_only_at}

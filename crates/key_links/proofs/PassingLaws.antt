@@ -1,5 +1,5 @@
 -- A comparison with a column whose only cell doesn't pass adds nothing.
-use Rattle.std.proofs.Common.{◌≡◌, ◌∙◌, ℕ, Bool, true, false, ◌&&◌, List, [], ◌∷◌, ◌++◌, refl, sym, ap, subst, rules, Option, Some, None, fold, slice_get, if◌then◌else◌}
+use Rattle.std.proofs.Common.{◌≡◌, ◌∙◌, ℕ, Bool, true, false, ◌&&◌, List, [], ◌∷◌, ◌++◌, refl, ap, Option, Some, fold, slice_get, if◌then◌else◌}
 use Rattle.std.specs.List.{list_any}
 use Rattle.feature_expr.specs.Expressions.{or_of}
 use Rattle.feature_expr.specs.declared.expr.Expr.{Expr}

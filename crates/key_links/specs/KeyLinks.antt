@@ -66,7 +66,7 @@ cell_at place cells = cell_or_none (slice_get cells place)
 
 -- of two rows with different cells at these places the condition is true nowhere
 pub record IsColumnLink (whole : Cond) (left right : List VColumn) (link : ColumnLink) : Type 0 where
-  pub nowhere : (cells others : List (Option Value)) → same_cells (cell_at link.left cells ∷ []) (cell_at link.right others ∷ []) ≡ false
+  pub nowhere : (cells others : List (Option Value)) → same_cells (cell_at link.right others ∷ []) (cell_at link.left cells ∷ []) ≡ false
       → truth_of (slots_of left cells ++ slots_of right others) whole ≡ e.False
 
 -- the columns at these places alone have these names, each on its side

@@ -80,7 +80,11 @@ fn places_of(
 }
 
 /// A copy of the cell at the place.
-pub fn cell_at(alloc: Global, place: usize, cells: &[Option<Value>]) -> Result<Option<Value>, Memory>
+pub fn cell_at(
+    alloc: Global,
+    place: usize,
+    cells: &[Option<Value>],
+) -> Result<Option<Value>, Memory>
     ensures { IfOk result (λ it. it ≡ cell_at place cells.now) }
 {
     match cells.get(place) {

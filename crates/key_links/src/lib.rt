@@ -5,8 +5,8 @@
 #![tactic(auto)]
 
 mod columns;
-mod only;
 mod literals;
+mod only;
 
 pub use columns::{ColumnLink, cell_at, column_link};
 pub use literals::{ValueLink, meets_links, value_links};

@@ -14,7 +14,11 @@ pub fn only_place(name: &ColName, columns: &[VColumn]) -> Option<usize>
     let mut left = columns;
     while let Some((column, more)) = left.split_first() {
         if is_named(name, column) {
-            return if has_name(name, more) { None } else { Some(place) };
+            return if has_name(name, more) {
+                None
+            } else {
+                Some(place)
+            };
         }
         place += 1;
         left = more;

@@ -3,7 +3,6 @@ use Rattle.std.proofs.Common.{◌≡◌, ◌∙◌, ◌++◌, ap₂, append-nil,
 use Rattle.std.specs.Option.{option_to_list}
 use Rattle.feature_expr.specs.Expressions.{and_of}
 use Rattle.feature_expr.specs.declared.expr.Expr.{Expr}
-use Rattle.feature_expr.specs.declared.expr.Expr as e
 use Rattle.values.specs.declared.value.Value.{Value}
 use Rattle.plan_merges.specs.Merges.{pair_meeting}
 use Rattle.row_conditions.specs.Truths.{slots_of, truth_of}

@@ -12,3 +12,4 @@ pub mod WayWeights
 pub mod CountLaws
 pub mod PairLaws
 pub mod GivenLaws
+pub mod LinkedLaws

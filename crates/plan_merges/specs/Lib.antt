@@ -1,1 +1,2 @@
+pub mod LinkedPairs
 pub mod Merges

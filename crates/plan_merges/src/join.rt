@@ -4,8 +4,10 @@ ghost use Rattle.std.specs.Option.{option_to_list};
 ghost use Rattle.plan_merges.specs.Merges.{joined_table, pair_meeting, pairs_of_row, pairs_table};
 ghost use Rattle.plan_tables.specs.Tables.{any_of, columns_under};
 
+use crate::linked::linked_pairs;
 use crate::merge::merged;
 use feature_expr::and;
+use key_links::column_link;
 use plan_tables::{any_of, is_false, put_columns_under, put_under};
 use row_conditions::{Part, pair_rows, truth_on};
 use std::alloc::Global;
@@ -53,7 +55,25 @@ fn columns_of_both(alloc: Global, left: &VTable, right: &VTable) -> Result<List<
     Ok(List::from_vec(out))
 }
 
+/// Where the condition has a link between the sides, a row is paired with those alone that have its cell there.
 fn pairs<L: Ledger>(
+    alloc: Global,
+    cond: &Cond,
+    columns: &[VColumn],
+    right: &VTable,
+    rows: &[VRow],
+    steps: &mut Steps<L>,
+) -> Result<List<VRow>, Memory>
+    ensures made { IfOk result (λ it. it ≡ flat_map (pairs_of_row cond.now columns.now right.now) rows.now) }
+    ensures steps { steps.new ≤ steps.old + length rows.now * length right.now.rows }
+{
+    match column_link(cond, columns, right.columns.as_slice()) {
+        Some(link) => linked_pairs(alloc, cond, link, columns, right, rows, steps),
+        None => all_pairs(alloc, cond, columns, right, rows, steps),
+    }
+}
+
+fn all_pairs<L: Ledger>(
     alloc: Global,
     cond: &Cond,
     columns: &[VColumn],
@@ -114,7 +134,7 @@ fn put_pairs_in<L: Ledger>(
     Ok(())
 }
 
-fn put_pair<L: Ledger>(
+pub fn put_pair<L: Ledger>(
     alloc: Global,
     cond: &Cond,
     columns: &[VColumn],

@@ -7,6 +7,7 @@
 mod alias;
 mod join;
 mod keep;
+mod linked;
 mod merge;
 mod way;
 

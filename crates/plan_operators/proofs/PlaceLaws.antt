@@ -1,19 +1,9 @@
 -- Loops over some of the rows.
-use Rattle.std.proofs.Common.{◌≡◌, ◌∙◌, ℕ, Bool, true, false, cond, List, [], ◌∷◌, ◌++◌, map, Option, Some, None, if◌then◌else◌, refl, sym, ap, ap₂, ◌+◌, ◌<◌, length, take, get_or, filter, fold, slice_get, append-nil}
+use Rattle.std.proofs.Common.{◌≡◌, ◌∙◌, ℕ, Bool, List, [], ◌∷◌, ◌++◌, Option, Some, None, refl, sym, ap, ◌+◌, ◌<◌, length, take, get_or, filter, fold}
 use Rattle.std.proofs.lemmas.List.{take_more}
 use Rattle.std.proofs.lemmas.List.Elements.{filter-append}
-use Rattle.std.proofs.lemmas.Option.{slice_get-get_or}
-use Rattle.std.specs.List.{cons_option, filter_map}
-use Rattle.std.specs.Global.{Vec}
-use Rattle.std.specs.Cmp.Lexicographic.{pointwise}
-use Rattle.std.specs.Option.{option_eq, option_to_list}
-use Rattle.std.specs.Map.{lookup}
-use Rattle.values.specs.declared.value.Value.{Value}
-use Rattle.plan_tables.proofs.LoopLaws.{kept_push}
-use Rattle.plan_tables.specs.Tables.{laid_cells}
-use Rattle.row_conditions.specs.Truths.{slots_of}
-use Rattle.vtable.specs.TableForm.{same_cells}
-use Rattle.vtable.specs.declared.table.VColumn.{VColumn}
+use Rattle.std.specs.List.{cons_option}
+use Rattle.std.specs.Option.{option_to_list}
 use Rattle.vtable.specs.declared.table.VRow.{VRow}
 
 -- ---- loops over some of the rows

@@ -1,4 +1,4 @@
-use Rattle.std.proofs.Common.{ap, sym, ◌∙◌}
+use Rattle.std.proofs.Common.{ap, ◌∙◌}
 use Rattle.row_places.proofs.PlaceLaws.{added_under}
 use Rattle.row_places.specs.Places.{places_under}
 use Rattle.row_places.proofs.places.Places.add.Goals as goal

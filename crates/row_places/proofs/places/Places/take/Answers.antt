@@ -1,4 +1,4 @@
-use Rattle.std.proofs.Common.{[], if◌then◌else◌, ap, sym, ◌∙◌}
+use Rattle.std.proofs.Common.{[], if◌then◌else◌, ap, ◌∙◌}
 use Rattle.row_places.proofs.PlaceLaws.{taken_under, under_updated}
 use Rattle.row_places.specs.Places.{places_under}
 use Rattle.vtable.specs.TableForm.{same_cells}
