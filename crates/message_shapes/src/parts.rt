@@ -268,6 +268,28 @@ fn put_sized(value: &Option<Text>, at: &mut Walk, space: &mut [u8])
     }
 }
 
+/// No bytes.
+impl Part for () {
+    ghost use Rattle.message_shapes.specs.Shapes.{nothing};
+
+    ghost shape = { nothing };
+
+    fn pass(bytes: &[u8]) -> Result<&[u8], usize> {
+        Ok(bytes)
+    }
+
+    fn read(_alloc: Global, bytes: &[u8]) -> Result<((), &[u8]), Fault> {
+        Ok(((), bytes))
+    }
+
+    fn is_good(&self) -> bool {
+        true
+    }
+
+    #[tactic(auto, using(crate::proofs::Steps::step_none))]
+    fn put(&self, _at: &mut Walk, _space: &mut [u8]) {}
+}
+
 /// One field behind the other.
 impl<A: Part, B: Part> Part for (A, B) {
     ghost use Rattle.message_shapes.specs.Shapes.{◌&◌};
