@@ -20,3 +20,12 @@ refusal_none true length most h =
       | inl long ↦ (let no : refused_at length ≡ None = rw long at h in absurd cc)
       | inr fits ↦ (refl, ltb-false most length fits)
     ]
+
+pub refusal_small : (has_spelling : Bool) (length most : ℕ) → refusal_of has_spelling length most ≡ None → length ≤ most
+refusal_small has_spelling length most h = (refusal_none has_spelling length most h).1
+
+pub capped_small : (n most : ℕ) → n ≤ most → most < 2 ^ 32 → capped n ≡ n
+capped_small n most le lt = omega (arith, le, lt)
+
+pub capped_passed : (n skip : ℕ) → skip ≡ 2 ^ 64 - 1 - n → 2 ^ 64 - 1 - skip ≡ capped n
+capped_passed n skip h = omega (arith, h)

@@ -1,10 +1,9 @@
+pub mod Added
 pub mod BackLaws
-pub mod FieldLaws
+pub mod Forms
 pub mod FrontLaws
 pub mod Lengths
-pub mod Loops
 pub mod MessageLaws
 pub mod Packets
-pub mod Passes
-pub mod SequenceLaws
+pub mod SideLaws
 pub mod StartupLaws

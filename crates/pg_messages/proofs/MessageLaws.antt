@@ -1,16 +1,18 @@
 -- A message behind its type byte: the head that was written is read, and the head that is read was written so.
 use Rattle.std.proofs.Common.{◌≡◌, ℕ, suc, ◌+◌, ◌^◌, ◌<◌, ◌≤◌, Bool, true, false, ltb, List, ◌∷◌, ◌++◌, length, take, drop, Option, Some, None, Result, Ok, Err, refl, sym, ap, ap₂, ◌∙◌, append_assoc, arith, inl, inr}
-use Rattle.std.specs.Prelude.{◌||◌}
+use Rattle.std.specs.Prelude.{◌||◌, ◌⊎◌}
 use Rattle.std.specs.Int.{w32, from_be_bytes, to_be_bytes}
-use Rattle.std.proofs.lemmas.Bool.{ltb-true, ltb-false, le-ltb, cases_Bool}
+use Rattle.std.proofs.lemmas.Bool.{ltb-true, ltb-false, le-ltb, lt-ltb, cases_Bool}
 use Rattle.std.proofs.lemmas.List.{take_at, drop_at, take-append-drop, take-append-le, take-take, length-append, length-take, length-drop}
 use Rattle.pg_messages.specs.declared.decoded.Decoded.TheVariants as decoded
+use Rattle.pg_messages.specs.declared.decoded.Why.{Why}
 use Rattle.pg_messages.specs.declared.decoded.Why.TheVariants as why
 use Rattle.pg_messages.specs.declared.packet.Head.{Head}
 use Rattle.pg_messages.specs.declared.packet.Head.TheVariants as head
 use Rattle.pg_messages.specs.Packet.{message_head, sized_head, decoded_as, packet_of, is_more_head}
-use Rattle.pg_messages.specs.Spelling.{IsBytes, message}
-use Rattle.pg_messages.proofs.FieldLaws.{wide32, IsBytes-take, IsBytes-drop}
+use Rattle.message_shapes.specs.Spelling.{IsBytes}
+use Rattle.pg_messages.specs.Spelling.{message}
+use Rattle.message_shapes.proofs.FieldLaws.{wide32, IsBytes-take, IsBytes-drop}
 
 or_false : (a b : Bool) → (a || b) ≡ false → (a ≡ false) × (b ≡ false)
 or_false true b h = absurd cc
@@ -37,31 +39,33 @@ head_at most kind text rest size len is low le within =
     let whole : ltb (length (text ++ rest)) size ≡ false = le-ltb _ _ (omega (arith, all)) in
     rw (there, take_at text rest 4 len, is, not_low, not_high, whole) refl
 
-packet_at : {K T : Type 0} (body_of : K → List ℕ → Result T ℕ) (byte : ℕ) (at : K) (m : T) (text body rest : List ℕ) (n : ℕ) → length text ≡ 4 → n ≡ length body + 4 + 1 → body_of at body ≡ Ok m → packet_of body_of 5 (head.Packet at n) ((byte ∷ (text ++ body)) ++ rest) ≡ decoded.Whole m n
-packet_at body_of byte at m text body rest n len is read =
+packet_at : {K T : Type 0} (body_of : K → List ℕ → Result T ℕ) (byte : ℕ) (at : K) (text body rest : List ℕ) (n : ℕ) → length text ≡ 4 → n ≡ length body + 4 + 1 → packet_of body_of 5 (head.Packet at n) ((byte ∷ (text ++ body)) ++ rest) ≡ decoded_as n (body_of at body)
+packet_at body_of byte at text body rest n len is =
     let whole : length (byte ∷ (text ++ body)) ≡ n = omega (arith, length-append text body) in
     let behind : drop 5 (byte ∷ (text ++ body)) ≡ body = drop_at (byte ∷ text) body 5 (ap suc len) in
-    rw (take_at (byte ∷ (text ++ body)) rest n whole, behind, read) refl
+    rw (take_at (byte ∷ (text ++ body)) rest n whole, behind) refl
 
 -- The body may be followed by anything.
-pub message_again : {K T : Type 0} (body_of : K → List ℕ → Result T ℕ) (most byte : ℕ) (kind : Option K) (at : K) (m : T) (body rest : List ℕ) → kind ≡ Some at → body_of at body ≡ Ok m → length body + 4 ≤ most → most < 2 ^ 32 → packet_of body_of 5 (message_head most kind ((to_be_bytes w32 (length body + 4) ++ body) ++ rest)) (message byte body ++ rest) ≡ decoded.Whole m (length (message byte body))
-message_again body_of most byte kind at m body rest is read le lt =
+pub message_read : {K T : Type 0} (body_of : K → List ℕ → Result T ℕ) (most byte : ℕ) (kind : Option K) (at : K) (body rest : List ℕ) → kind ≡ Some at → length body + 4 ≤ most → most < 2 ^ 32 → packet_of body_of 5 (message_head most kind ((to_be_bytes w32 (length body + 4) ++ body) ++ rest)) (message byte body ++ rest) ≡ decoded_as (length (message byte body)) (body_of at body)
+message_read body_of most byte kind at body rest is le lt =
     let size = length body + 4 in
     let regrouped = append_assoc (to_be_bytes w32 size) body rest in
     let len = wide32.len size in
     let told = head_at most at (to_be_bytes w32 size) (body ++ rest) size len (wide32.again size (omega arith)) (omega arith) le (omega (arith, len, length-append body rest)) in
     let n : length (message byte body) ≡ size + 1 = omega (arith, length-append (to_be_bytes w32 size) body, len) in
     let head_is : message_head most kind ((to_be_bytes w32 size ++ body) ++ rest) ≡ head.Packet at (length (message byte body)) = ap₂ (message_head most) is regrouped ∙ told ∙ ap (packet at) (sym n) in
-    ap (λ (x : Head _). packet_of body_of 5 x (message byte body ++ rest)) head_is ∙ packet_at body_of byte at m (to_be_bytes w32 size) body rest (length (message byte body)) len n read
+    ap (λ (x : Head _). packet_of body_of 5 x (message byte body ++ rest)) head_is ∙ packet_at body_of byte at (to_be_bytes w32 size) body rest (length (message byte body)) len n
+
+pub message_again : {K T : Type 0} (body_of : K → List ℕ → Result T ℕ) (most byte : ℕ) (kind : Option K) (at : K) (m : T) (body rest : List ℕ) → kind ≡ Some at → body_of at body ≡ Ok m → length body + 4 ≤ most → most < 2 ^ 32 → packet_of body_of 5 (message_head most kind ((to_be_bytes w32 (length body + 4) ++ body) ++ rest)) (message byte body ++ rest) ≡ decoded.Whole m (length (message byte body))
+message_again body_of most byte kind at m body rest is read le lt = message_read body_of most byte kind at body rest is le lt ∙ ap (decoded_as (length (message byte body))) read
 
 -- ---- what is read was written
 
 -- the message that the head told stands at the front
-pub record IsHeaded {K T : Type 0} (body_of : K → List ℕ → Result T ℕ) (most byte : ℕ) (kind : Option K) (bytes : List ℕ) (m : T) (n : ℕ) : Type 0 where
-  pub at : K
+pub record IsHeaded {K : Type 0} (most byte : ℕ) (kind : Option K) (bytes : List ℕ) (at : K) (n : ℕ) : Type 0 where
   pub body : List ℕ
   pub is : kind ≡ Some at
-  pub read : body_of at body ≡ Ok m
+  pub behind : drop 5 (take n bytes) ≡ body
   pub within : n ≤ length bytes
   pub small : length body + 4 ≤ most
   pub spelled : take n bytes ≡ message byte body
@@ -128,24 +132,82 @@ sized_body size rest fits low there is =
     let len : length (drop 4 (take size rest)) + 4 ≡ size = omega (arith, length-drop 4 (take size rest), length-take size rest) in
     sym (take-append-drop 4 (take size rest)) ∙ ap (λ (t : List ℕ). t ++ drop 4 (take size rest)) (take-take 4 size rest low ∙ sym front ∙ ap (to_be_bytes w32) (sym len))
 
-pub message_takes : {K T : Type 0} (body_of : K → List ℕ → Result T ℕ) (most byte : ℕ) (kind : Option K) (rest : List ℕ) (m : T) (n : ℕ) → IsBytes rest → packet_of body_of 5 (message_head most kind rest) (byte ∷ rest) ≡ decoded.Whole m n → IsHeaded body_of most byte kind (byte ∷ rest) m n
-message_takes body_of most byte kind rest m n fits e =
-    let found = packet_takes body_of 5 (message_head most kind rest) (byte ∷ rest) m n e in
-    let told = head_takes most kind found.0 rest n found.1 in
+pub headed : {K : Type 0} (most byte : ℕ) (kind : Option K) (rest : List ℕ) (at : K) (n : ℕ) → IsBytes rest → message_head most kind rest ≡ head.Packet at n → IsHeaded most byte kind (byte ∷ rest) at n
+headed most byte kind rest at n fits e =
+    let told = head_takes most kind at rest n e in
     let sized = told.1 in
     let front = front_more byte sized.size n rest sized.n_is in
-    let behind : drop 5 (take n (byte ∷ rest)) ≡ drop 4 (take sized.size rest) = ap (drop 5) front in
     let len : length (drop 4 (take sized.size rest)) + 4 ≡ sized.size = omega (arith, sized.low, sized.there, length-drop 4 (take sized.size rest), length-take sized.size rest) in
     record {
-      at = found.0;
       body = drop 4 (take sized.size rest);
       is = told.0;
-      read = ap (body_of found.0) (sym behind) ∙ found.2;
+      behind = ap (drop 5) front;
       within = omega (arith, sized.n_is, sized.there);
       small = omega (arith, len, sized.high);
       spelled = front ∙ ap (λ (t : List ℕ). byte ∷ t) (sized_body sized.size rest fits sized.low sized.there sized.size_is);
       body_fits = IsBytes-drop 4 (take sized.size rest) (IsBytes-take sized.size rest fits);
     }
+
+-- ---- bad heads
+
+abbrev bad : {K : Type 0} → ℕ → Why → Head K
+bad place cause = head.Bad place cause
+
+bad_is : {K : Type 0} (p q : ℕ) (c d : Why) → bad {K = K} p c ≡ bad {K = K} q d → (p ≡ q) × (c ≡ d)
+bad_is p q c d e = (cc, cc)
+
+-- the length is outside of the bounds
+pub record IsOutside (most : ℕ) (rest : List ℕ) (size : ℕ) : Type 0 where
+  pub there : 4 ≤ length rest
+  pub size_is : size ≡ from_be_bytes w32 (take 4 rest)
+  pub outside : (size < 4) ⊎ (most < size)
+
+-- what a bad head has
+abbrev pub BadHead : {K : Type 0} → ℕ → Option K → List ℕ → ℕ → Why → Type 0
+BadHead {K = K} most kind rest place cause =
+    (kind ≡ None) × (place ≡ 0) × (cause ≡ why.TypeByte)
+    ⊎ (at : K) × (size : ℕ) × (kind ≡ Some at) × IsOutside most rest size × (place ≡ 1) × (cause ≡ why.Length)
+
+sized_bad : {K : Type 0} (most : ℕ) (kind : K) (rest : List ℕ) (size place : ℕ) (cause : Why) → sized_head most kind rest size ≡ bad place cause → ((size < 4) ⊎ (most < size)) × (place ≡ 1) × (cause ≡ why.Length)
+sized_bad {K = K} most kind rest size place cause e =
+    elim (cases_Bool (ltb size 4)) [
+      | inl low ↦ (let same = bad_is {K = K} 1 place why.Length cause (rw low at e) in (inl (ltb-true size 4 low), sym same.0, sym same.1))
+      | inr low ↦ elim (cases_Bool (ltb most size)) [
+        | inl high ↦ (let same = bad_is {K = K} 1 place why.Length cause (rw (low, high) at e) in (inr (ltb-true most size high), sym same.0, sym same.1))
+        | inr high ↦ elim (cases_Bool (ltb (length rest) size)) [
+          | inl short ↦ (let no : more_of kind ≡ bad place cause = rw (low, high, short) at e in absurd cc)
+          | inr short ↦ (let no : packet kind (size + 1) ≡ bad place cause = rw (low, high, short) at e in absurd cc)
+        ]
+      ]
+    ]
+
+pub head_bad : {K : Type 0} (most : ℕ) (kind : Option K) (rest : List ℕ) (place : ℕ) (cause : Why) → message_head most kind rest ≡ bad place cause → BadHead most kind rest place cause
+unfolding message_head
+head_bad {K = K} most None rest place cause e = (let same = bad_is {K = K} 0 place why.TypeByte cause e in inl (refl, sym same.0, sym same.1))
+head_bad {K = K} most (Some kind) rest place cause e =
+    elim (cases_Bool (ltb (length rest) 4)) [
+      | inl short ↦ (let no : more_of kind ≡ bad place cause = rw short at e in absurd cc)
+      | inr long ↦
+          let is = sized_bad most kind rest (from_be_bytes w32 (take 4 rest)) place cause (rw long at e) in
+          inr (kind, from_be_bytes w32 (take 4 rest), refl, record { there = ltb-false (length rest) 4 long; size_is = refl; outside = is.0 }, is.1, is.2)
+    ]
+
+-- a length outside of the bounds is bad
+outside_bad : {K : Type 0} (most : ℕ) (at : K) (text rest : List ℕ) (size : ℕ) → length text ≡ 4 → from_be_bytes w32 text ≡ size → (size < 4) ⊎ (most < size) → message_head most (Some at) (text ++ rest) ≡ head.Bad 1 why.Length
+unfolding message_head
+outside_bad most at text rest size len is outside =
+    let there : ltb (length (text ++ rest)) 4 ≡ false = le-ltb _ _ (omega (arith, length-append text rest, len)) in
+    elim (cases_Bool (ltb size 4)) [
+      | inl low ↦ rw (there, take_at text rest 4 len, is, low) refl
+      | inr low ↦
+          let least = ltb-false size 4 low in
+          let high : ltb most size ≡ true = elim outside [ inl less ↦ absurd (omega (arith, less, least)) | inr more ↦ lt-ltb most size more ] in
+          rw (there, take_at text rest 4 len, is, low, high) refl
+    ]
+
+pub bad_length : {K : Type 0} (most : ℕ) (kind : Option K) (at : K) (rest : List ℕ) (size : ℕ) → kind ≡ Some at → size < 2 ^ 32 → (size < 4) ⊎ (most < size) → message_head most kind (to_be_bytes w32 size ++ rest) ≡ head.Bad 1 why.Length
+bad_length most kind at rest size is fits outside =
+    ap (λ k. message_head most k (to_be_bytes w32 size ++ rest)) is ∙ outside_bad most at (to_be_bytes w32 size) rest size (wide32.len size) (wide32.again size fits) outside
 
 -- ---- what lies behind a packet changes nothing
 

@@ -3,9 +3,9 @@ use Rattle.std.proofs.Common.{◌≡◌, ℕ, Bool, true, false, List, take, dro
 use Rattle.std.specs.Result.{is_ok}
 use Rattle.pg_messages.specs.declared.decoded.Decoded.{Decoded}
 use Rattle.pg_messages.specs.declared.decoded.Decoded.TheVariants as decoded
-use Rattle.pg_messages.specs.declared.fields.Fault.{Fault}
-use Rattle.pg_messages.specs.declared.fields.Fault.TheVariants as fault
-use Rattle.pg_messages.specs.Fields.{ReadsAs}
+use Rattle.message_shapes.specs.declared.fields.Fault.{Fault}
+use Rattle.message_shapes.specs.declared.fields.Fault.TheVariants as fault
+use Rattle.message_shapes.specs.Fields.{ReadsAs}
 use Rattle.pg_messages.specs.declared.packet.Head.{Head}
 use Rattle.pg_messages.specs.declared.packet.Head.TheVariants as head
 use Rattle.pg_messages.specs.Packet.{Answers, IfWhole, IfMemory, TakesMemory, decoded_as, decoded_from, packet_of, is_more, is_more_head, is_whole}

@@ -1,129 +1,95 @@
 -- The start-up packets: what is spelled is read, and what is read is spelled so.
-use Rattle.std.proofs.Common.{◌≡◌, ℕ, ◌+◌, ◌^◌, ◌<◌, ◌≤◌, true, false, not, ltb, List, [], ◌∷◌, ◌++◌, length, take, drop, Option, Some, None, Ok, refl, sym, ap, ap₂, subst, ◌∙◌, append_assoc, arith, inl, inr}
-use Rattle.std.specs.Prelude.{◌⊎◌, ◌&&◌, ◌==◌}
+use Rattle.std.proofs.Common.{◌≡◌, ℕ, zero, suc, ◌+◌, ◌^◌, ◌<◌, ◌≤◌, true, false, not, ltb, List, [], ◌∷◌, ◌++◌, length, take, drop, None, Result, Ok, Err, refl, sym, ap, ap₂, subst, ◌∙◌, append_assoc, arith, inl, inr}
+use Rattle.std.specs.Prelude.{◌&&◌, ◌==◌}
 use Rattle.std.specs.Int.{w32, from_be_bytes, to_be_bytes}
-use Rattle.std.specs.List.{flat_map}
-use Rattle.std.proofs.lemmas.Bool.{cases_Bool, eqb-true, ltb-true, ltb-false, le-ltb, le-leb, and_parts, and_from, not-true}
+use Rattle.std.proofs.lemmas.Bool.{cases_Bool, eqb-true, ltb-true, ltb-false, le-ltb, le-leb, and_parts, not-true}
 use Rattle.std.proofs.lemmas.List.{append-nil, take_at, drop_at, take-append-drop, take-append-le, drop-append-le, take-take, drop-take, length-append, length-take, length-drop, nil_from_length}
+use Rattle.message_shapes.specs.Fields.{◌>>=◌}
+use Rattle.message_shapes.specs.Shapes.{size_limit, string_bytes, string, word, unread, zero_ended, ◌&◌}
+use Rattle.message_shapes.specs.Spelling.{IsBytes, is_string}
+use Rattle.message_shapes.proofs.FieldLaws.{ok_is, guarded_ok, wide32, IsBytes-take, IsBytes-drop}
+use Rattle.message_shapes.proofs.ShapeLaws.{IsShape, string_is, word_is}
+use Rattle.message_shapes.proofs.ComposedLaws.{StartsWell, both_is, via_is, zero_ended_is}
 use Rattle.pg_messages.specs.declared.decoded.Decoded.{Decoded}
 use Rattle.pg_messages.specs.declared.decoded.Decoded.TheVariants as decoded
 use Rattle.pg_messages.specs.declared.decoded.Why.{Why}
 use Rattle.pg_messages.specs.declared.decoded.Why.TheVariants as why
 use Rattle.pg_messages.specs.declared.packet.Head.{Head}
 use Rattle.pg_messages.specs.declared.packet.Head.TheVariants as head
-use Rattle.pg_messages.specs.declared.startup.Pair.{Pair}
 use Rattle.pg_messages.specs.declared.startup.Startup.{Startup}
 use Rattle.pg_messages.specs.declared.startup.Startup.TheVariants as startup
 use Rattle.pg_messages.specs.declared.startup.StartupKind.{StartupKind}
 use Rattle.pg_messages.specs.declared.startup.StartupKind.TheVariants as kinds
 use Rattle.pg_messages.specs.Limits.{protocol_code, startup_limit}
-use Rattle.pg_messages.specs.Fields.{◌>>=◌, string_at, until_end}
 use Rattle.pg_messages.specs.Packet.{packet_of, is_more, is_more_head}
-use Rattle.pg_messages.specs.Spelling.{IsBytes, is_string, string}
-use Rattle.pg_messages.specs.StartupReading.{startup_kind, has_length, coded_head, sized_head, startup_head, pair_of, named_pair, next_pair, startup_fields, startup_of}
-use Rattle.pg_messages.specs.StartupSpelling.{startup_code, pair_bytes, startup_layout, startup_packet, startup_bytes, startup_refusal, is_pair, is_spelled_startup, IsRest, IsStartup}
-use Rattle.pg_messages.proofs.FieldLaws.{bind_ok, ok_is, Takes, Takes-then, string_again, string_takes, guarded_ok, wide32, IsBytes-take, IsBytes-drop}
+use Rattle.pg_messages.specs.Sides.{formed_at, formed}
+use Rattle.pg_messages.specs.Startup.{pair, pair_made, pair_taken, startup_kind, startup_code, startup_form, startup_sent, has_length, coded_head, sized_head, startup_head, last, startup_body, startup_of, startup_packet, startup_layout, startup_bytes, startup_refusal, IsStartup}
+use Rattle.pg_messages.proofs.Forms.{IsForm, fields_form, formed_is, sent_is}
 use Rattle.pg_messages.proofs.MessageLaws.{packet_takes, packet_kept}
 use Rattle.pg_messages.proofs.Lengths.{refusal_none}
 use Rattle.pg_messages.proofs.Packets.{is_more_packet}
-use Rattle.pg_messages.proofs.SequenceLaws.{NextTakes, until_takes, until_again}
 
 -- ---- pairs
 
-abbrev IsEnd : List ℕ → Type 0
-IsEnd rest = rest ≡ []
+pair_is : IsShape pair
+unfolding pair
+pair_is = via_is pair_made pair_taken (word & string) (both_is _ _ word_is string_is) (λ p h. refl)
 
-pair_again : (p : Pair) (more : List ℕ) → is_pair p ≡ true → next_pair (pair_bytes p ++ more) ≡ Ok (Some p, more)
-unfolding next_pair
-pair_again p more h =
-    let front = and_parts (not (length p.name == 0) && is_string p.name) (is_string p.value) h in
-    let named = and_parts (not (length p.name == 0)) (is_string p.name) front.0 in
-    let full : (length p.name == 0) ≡ false = not-true (length p.name == 0) named.0 in
-    let regrouped : pair_bytes p ++ more ≡ string p.name ++ (string p.value ++ more) = append_assoc (string p.name) (string p.value) more in
-    ap next_pair regrouped ∙ rw (string_again p.name (string p.value ++ more) named.1, full, string_again p.value more front.1) refl
+word_starts : (name a b text : List ℕ) → (not (length name == 0) && is_string name) ≡ true → a ≡ string_bytes name → text ≡ a ++ b → (n : ℕ) × (t : List ℕ) × (text ≡ suc n ∷ t)
+unfolding string_bytes
+word_starts [] a b text h is all = absurd cc
+word_starts (zero ∷ name) a b text h is all =
+    let parts = and_parts (not (length (zero ∷ name) == 0)) (is_string (zero ∷ name)) h in
+    let some : is_string (zero ∷ name) ≡ true = parts.1 in
+    absurd (cc some)
+word_starts (suc n ∷ name) a b text h is all = (n, (name ++ 0 ∷ []) ++ b, all ∙ ap (λ (t : List ℕ). t ++ b) is)
 
-last_again : next_pair (0 ∷ []) ≡ Ok (None, [])
-unfolding next_pair
-last_again = rw (string_again [] [] refl) refl
+pair_starts : StartsWell pair
+unfolding pair
+pair_starts p text h = word_starts h.0.0 h.2.0 h.2.1 text h.2.3.0 h.2.3.1 h.2.2
 
-named_takes : (bytes name rest : List ℕ) (x : Option Pair × List ℕ) → Takes bytes (string name) rest → is_string name ≡ true → named_pair bytes name rest ≡ Ok x → NextTakes pair_bytes is_pair IsEnd bytes x
-named_takes bytes name rest x took text e =
-    elim (cases_Bool (length name == 0)) [
-      | inl empty ↦
-          let none : Option Pair × List ℕ = (None, rest) in
-          let last = guarded_ok (length rest == 0) (length bytes) none x (rw empty at e) in
-          let no_name : name ≡ [] = nil_from_length name (eqb-true (length name) 0 empty) in
-          let no_rest : rest ≡ [] = nil_from_length rest (eqb-true (length rest) 0 last.0) in
-          let ends : NextTakes pair_bytes is_pair IsEnd bytes none = (subst (λ (t : List ℕ). Takes bytes (string t) rest) no_name took, no_rest) in
-          subst (NextTakes pair_bytes is_pair IsEnd bytes) last.1 ends
-      | inr full ↦
-          let goes : (string_at rest >>= λ value. Ok (Some (pair_of name value.0), value.1)) ≡ Ok x = rw full at e in
-          let a = bind_ok (string_at rest) (λ value. Ok (Some (pair_of name value.0), value.1)) x goes in
-          let v = string_takes rest a.0.0 a.0.1 took.rest_fits a.1 in
-          let both = Takes-then bytes (string name) rest (string a.0.0) a.0.1 took v.0 in
-          let named : (not (length name == 0) && is_string name) ≡ true = and_from (not (length name == 0)) (is_string name) (ap not full) text in
-          let pair : NextTakes pair_bytes is_pair IsEnd bytes (Some (pair_of name a.0.0), a.0.1) = (both, and_from (not (length name == 0) && is_string name) (is_string a.0.0) named v.1) in
-          subst (NextTakes pair_bytes is_pair IsEnd bytes) (ok_is (Some (pair_of name a.0.0), a.0.1) x a.2) pair
-    ]
-
-pair_takes : (bytes : List ℕ) (x : Option Pair × List ℕ) → IsBytes bytes → next_pair bytes ≡ Ok x → NextTakes pair_bytes is_pair IsEnd bytes x
-unfolding next_pair
-pair_takes bytes x fits e =
-    let a = bind_ok (string_at bytes) (λ name. named_pair bytes name.0 name.1) x e in
-    let t = string_takes bytes a.0.0 a.0.1 fits a.1 in
-    named_takes bytes a.0.0 a.0.1 x t.0 t.1 a.2
+pairs_are : IsShape (zero_ended pair)
+pairs_are = zero_ended_is _ pair_is pair_starts
 
 -- ---- the rest of a packet
 
-abbrev kind_of : Startup → StartupKind
-kind_of (startup.Start pairs) = kinds.Start
-kind_of (startup.Other code) = kinds.Other code
+abbrev other : ℕ → Startup
+other code = startup.Other code
 
-kind_again : (m : Startup) → is_spelled_startup m ≡ true → startup_kind (startup_code m) ≡ kind_of m
-kind_again (startup.Start pairs) h = refl
-kind_again (startup.Other code) h = let other : (code == protocol_code) ≡ false = not-true (code == protocol_code) h in rw other refl
+unread_is : (code : ℕ) → IsForm (formed unread (λ x. startup.Other code))
+unfolding formed_at
+unread_is code = record {
+  takes = λ body m fits e. (tt, ap (λ (x : Startup × List ℕ). x.0) (ok_is (other code, []) (m, []) e), tt);
+  again = λ m body h. ap (λ (x : Startup). Ok (x, [])) h.1;
+}
 
-count-pairs : (pairs : List Pair) → length pairs ≤ length (flat_map pair_bytes pairs)
-count-pairs [] = omega arith
-count-pairs (p ∷ pairs) = omega (arith, count-pairs pairs, length-append (pair_bytes p) (flat_map pair_bytes pairs), length-append (string p.name) (string p.value), length-append p.name (0 ∷ []))
+form_is : (kind : StartupKind) → IsForm (startup_form kind)
+unfolding startup_form
+form_is kinds.Start = fields_form _ (formed_is _ _ pairs_are)
+form_is (kinds.Other code) = unread_is code
 
-rest_again : (m : Startup) (rest : List ℕ) → is_spelled_startup m ≡ true → IsRest m rest → startup_fields (kind_of m) rest ≡ Ok m
-unfolding startup_fields
-rest_again (startup.Start pairs) rest h is =
-    let more : length pairs < length (flat_map pair_bytes pairs ++ 0 ∷ []) = omega (arith, count-pairs pairs, length-append (flat_map pair_bytes pairs) (0 ∷ [])) in
-    let read = until_again next_pair pair_bytes is_pair [] pair_again last_again (length (flat_map pair_bytes pairs ++ 0 ∷ [])) pairs more h in
-    rw (is, read) refl
-rest_again (startup.Other code) rest h is = refl
+last_ok : (read : Result (Startup × List ℕ) ℕ) (m : Startup) → (read >>= last) ≡ Ok m → read ≡ Ok (m, [])
+last_ok (Err left) m e = absurd cc
+last_ok (Ok x) m e =
+    let g = guarded_ok (length x.1 == 0) (length x.1 + 1) x.0 m e in
+    let none : x.1 ≡ [] = nil_from_length x.1 (eqb-true (length x.1) 0 g.0) in
+    ap₂ (λ (y : Startup) (r : List ℕ). Ok (y, r)) g.1 none
 
-rest_length : (m : Startup) (rest : List ℕ) → IsRest m rest → has_length (kind_of m) (length rest + 8) ≡ true
-rest_length (startup.Start pairs) rest is = le-leb 9 (length rest + 8) (omega (arith, ap length is, length-append (flat_map pair_bytes pairs) (0 ∷ [])))
-rest_length (startup.Other code) rest is = refl
+last_again : (read : Result (Startup × List ℕ) ℕ) (m : Startup) → read ≡ Ok (m, []) → (read >>= last) ≡ Ok m
+last_again read m e = rw e refl
 
-other_is : (a b : ℕ) → kinds.Other a ≡ kinds.Other b → a ≡ b
-other_is a b e = cc
+rest_again : (kind : StartupKind) (m : Startup) (rest : List ℕ) → (startup_form kind).Spells m rest → startup_body kind rest ≡ Ok m
+unfolding startup_body
+rest_again kind m rest h = last_again ((startup_form kind).read rest) m ((form_is kind).again m rest h)
 
-kind_is : (code : ℕ) (kind : StartupKind) → startup_kind code ≡ kind → ((code ≡ protocol_code) × (kind ≡ kinds.Start)) ⊎ (((code == protocol_code) ≡ false) × (kind ≡ kinds.Other code))
-kind_is code kind e =
-    elim (cases_Bool (code == protocol_code)) [
-      | inl is ↦ inl (eqb-true code protocol_code is, sym (rw is at e))
-      | inr other ↦ inr (other, sym (rw other at e))
-    ]
+rest_takes : (kind : StartupKind) (rest : List ℕ) (m : Startup) → IsBytes rest → startup_body kind rest ≡ Ok m → (startup_form kind).Spells m rest
+unfolding startup_body
+rest_takes kind rest m fits e = (form_is kind).takes rest m fits (last_ok ((startup_form kind).read rest) m e)
 
-rest_takes : (kind : StartupKind) (code : ℕ) (rest : List ℕ) (m : Startup) → IsBytes rest → startup_kind code ≡ kind → startup_fields kind rest ≡ Ok m → IsRest m rest × (startup_code m ≡ code) × (is_spelled_startup m ≡ true)
-unfolding startup_fields
-rest_takes kinds.Start code rest m fits announced e =
-    let a = bind_ok (until_end next_pair (length rest) rest) (λ pairs. Ok (startup.Start pairs.0)) m e in
-    let all = until_takes next_pair pair_bytes is_pair IsEnd pair_takes (length rest) rest a.0.0 a.0.1 fits a.1 in
-    let whole : rest ≡ flat_map pair_bytes a.0.0 ++ 0 ∷ [] = all.taken.parts ∙ ap (λ (t : List ℕ). (flat_map pair_bytes a.0.0 ++ 0 ∷ []) ++ t) all.last ∙ append-nil (flat_map pair_bytes a.0.0 ++ 0 ∷ []) in
-    let is : protocol_code ≡ code = elim (kind_is code kinds.Start announced) [ inl k ↦ sym k.0 | inr k ↦ absurd (cc k.1) ] in
-    subst (λ (y : Startup). IsRest y rest × (startup_code y ≡ code) × (is_spelled_startup y ≡ true)) (ok_is (startup.Start a.0.0) m a.2) (whole, is, all.good_all)
-rest_takes (kinds.Other other) code rest m fits announced e =
-    elim (kind_is code (kinds.Other other) announced) [
-      | inl k ↦ absurd (cc k.1)
-      | inr k ↦
-          let same : other ≡ code = other_is other code k.1 in
-          subst (λ (y : Startup). IsRest y rest × (startup_code y ≡ code) × (is_spelled_startup y ≡ true)) (ok_is (startup.Other other) m e) (tt, same, ap not (ap (λ (j : ℕ). j == protocol_code) same ∙ k.0))
-    ]
+rest_length : (kind : StartupKind) (m : Startup) (rest : List ℕ) → (startup_form kind).Spells m rest → has_length kind (length rest + 8) ≡ true
+unfolding startup_form
+rest_length kinds.Start m rest h = le-leb 9 (length rest + 8) (omega (arith, ap length h.2.1, length-append h.2.0 (0 ∷ [])))
+rest_length (kinds.Other code) m rest h = refl
 
 -- ---- the head
 
@@ -142,30 +108,26 @@ head_at length_text code_text rest n code len_a len_b is_n is_code low high with
     let whole : ltb (length (length_text ++ (code_text ++ rest))) n ≡ false = le-ltb _ _ (omega (arith, all, parts)) in
     rw (there, take_at length_text (code_text ++ rest) 4 len_a, drop_at length_text (code_text ++ rest) 4 len_a, is_n, not_low, not_high, coded, take_at code_text rest 4 len_b, is_code, fits, whole) refl
 
-packet_at : (kind : StartupKind) (m : Startup) (length_text code_text rest more : List ℕ) (n : ℕ) → length length_text ≡ 4 → length code_text ≡ 4 → n ≡ length rest + 8 → startup_fields kind rest ≡ Ok m → packet_of startup_fields 8 (packet kind n) (((length_text ++ code_text) ++ rest) ++ more) ≡ decoded.Whole m n
+packet_at : (kind : StartupKind) (m : Startup) (length_text code_text rest more : List ℕ) (n : ℕ) → length length_text ≡ 4 → length code_text ≡ 4 → n ≡ length rest + 8 → startup_body kind rest ≡ Ok m → packet_of startup_body 8 (packet kind n) (((length_text ++ code_text) ++ rest) ++ more) ≡ decoded.Whole m n
 packet_at kind m length_text code_text rest more n len_a len_b is read =
     let front = length-append length_text code_text in
     let whole : length ((length_text ++ code_text) ++ rest) ≡ n = omega (arith, length-append (length_text ++ code_text) rest, front) in
     let behind : drop 8 ((length_text ++ code_text) ++ rest) ≡ rest = drop_at (length_text ++ code_text) rest 8 (omega (arith, front)) in
     rw (take_at ((length_text ++ code_text) ++ rest) more n whole, behind, read) refl
 
-spelled_again : (m : Startup) (rest more : List ℕ) → is_spelled_startup m ≡ true → startup_code m < 2 ^ 32 → IsRest m rest → length rest + 8 ≤ startup_limit → startup_of (startup_packet (startup_code m) rest ++ more) ≡ decoded.Whole m (length (startup_packet (startup_code m) rest))
+spelled_again : (m : Startup) (code : ℕ) (rest more : List ℕ) → code < 2 ^ 32 → (startup_form (startup_kind code)).Spells m rest → length rest + 8 ≤ startup_limit → startup_of (startup_packet code rest ++ more) ≡ decoded.Whole m (length (startup_packet code rest))
 unfolding startup_of
-spelled_again m rest more h code is le =
+spelled_again m code rest more fits is le =
     let n = length rest + 8 in
-    let length_text = to_be_bytes w32 n in
-    let code_text = to_be_bytes w32 (startup_code m) in
-    let regrouped : startup_packet (startup_code m) rest ++ more ≡ to_be_bytes w32 n ++ (to_be_bytes w32 (startup_code m) ++ (rest ++ more)) = append_assoc (to_be_bytes w32 n ++ to_be_bytes w32 (startup_code m)) rest more ∙ append_assoc (to_be_bytes w32 n) (to_be_bytes w32 (startup_code m)) (rest ++ more) in
-    let kind = kind_again m h in
-    let fits : has_length (startup_kind (startup_code m)) n ≡ true = ap (λ (k : StartupKind). has_length k n) kind ∙ rest_length m rest is in
-    let told = head_at (to_be_bytes w32 n) (to_be_bytes w32 (startup_code m)) (rest ++ more) n (startup_code m) (wide32.len n) (wide32.len (startup_code m)) (wide32.again n (omega arith)) (wide32.again (startup_code m) code) (omega arith) le (omega (arith, length-append rest more)) fits in
-    let size : length (startup_packet (startup_code m) rest) ≡ n = omega (arith, length-append (to_be_bytes w32 n ++ to_be_bytes w32 (startup_code m)) rest, length-append (to_be_bytes w32 n) (to_be_bytes w32 (startup_code m)), wide32.len n, wide32.len (startup_code m)) in
-    let head_is : startup_head (startup_packet (startup_code m) rest ++ more) ≡ packet (kind_of m) (length (startup_packet (startup_code m) rest)) = ap startup_head regrouped ∙ told ∙ ap₂ packet kind (sym size) in
-    ap (λ (x : Head StartupKind). packet_of startup_fields 8 x (startup_packet (startup_code m) rest ++ more)) head_is
-    ∙ packet_at (kind_of m) m (to_be_bytes w32 n) (to_be_bytes w32 (startup_code m)) rest more (length (startup_packet (startup_code m) rest)) (wide32.len n) (wide32.len (startup_code m)) size (rest_again m rest h is)
+    let regrouped : startup_packet code rest ++ more ≡ to_be_bytes w32 n ++ (to_be_bytes w32 code ++ (rest ++ more)) = append_assoc (to_be_bytes w32 n ++ to_be_bytes w32 code) rest more ∙ append_assoc (to_be_bytes w32 n) (to_be_bytes w32 code) (rest ++ more) in
+    let told = head_at (to_be_bytes w32 n) (to_be_bytes w32 code) (rest ++ more) n code (wide32.len n) (wide32.len code) (wide32.again n (omega arith)) (wide32.again code fits) (omega arith) le (omega (arith, length-append rest more)) (rest_length (startup_kind code) m rest is) in
+    let size : length (startup_packet code rest) ≡ n = omega (arith, length-append (to_be_bytes w32 n ++ to_be_bytes w32 code) rest, length-append (to_be_bytes w32 n) (to_be_bytes w32 code), wide32.len n, wide32.len code) in
+    let head_is : startup_head (startup_packet code rest ++ more) ≡ packet (startup_kind code) (length (startup_packet code rest)) = ap startup_head regrouped ∙ told ∙ ap (packet (startup_kind code)) (sym size) in
+    ap (λ (x : Head StartupKind). packet_of startup_body 8 x (startup_packet code rest ++ more)) head_is
+    ∙ packet_at (startup_kind code) m (to_be_bytes w32 n) (to_be_bytes w32 code) rest more (length (startup_packet code rest)) (wide32.len n) (wide32.len code) size (rest_again (startup_kind code) m rest is)
 
 pub startup_again : (m : Startup) (packet more : List ℕ) → IsStartup m packet → startup_of (packet ++ more) ≡ decoded.Whole m (length packet)
-startup_again m packet more is = rw is.bytes (spelled_again m is.rest more is.spelled is.code is.laid_out is.within)
+startup_again m packet more is = rw is.bytes (spelled_again m is.code is.rest more is.fits is.spelled is.within)
 
 -- what the head of a whole packet tells
 record IsCoded (kind : StartupKind) (n : ℕ) (bytes : List ℕ) : Type 0 where
@@ -238,19 +200,17 @@ parted n bytes fits low there is =
 pub startup_takes : (bytes : List ℕ) (m : Startup) (n : ℕ) → IsBytes bytes → startup_of bytes ≡ decoded.Whole m n → (n ≤ length bytes) × IsStartup m (take n bytes)
 unfolding startup_of
 startup_takes bytes m n fits e =
-    let found = packet_takes startup_fields 8 (startup_head bytes) bytes m n e in
+    let found = packet_takes startup_body 8 (startup_head bytes) bytes m n e in
     let told = head_takes bytes found.0 n found.1 in
-    let code = from_be_bytes w32 (take 4 (drop 4 bytes)) in
-    let t = rest_takes found.0 (from_be_bytes w32 (take 4 (drop 4 bytes))) (drop 8 (take n bytes)) m (IsBytes-drop 8 (take n bytes) (IsBytes-take n bytes fits)) told.kind_is found.2 in
-    let below : from_be_bytes w32 (take 4 (drop 4 bytes)) < 2 ^ 32 = wide32.below (take 4 (drop 4 bytes)) (IsBytes-take 4 (drop 4 bytes) (IsBytes-drop 4 bytes fits)) in (
+    let spelled = rest_takes found.0 (drop 8 (take n bytes)) m (IsBytes-drop 8 (take n bytes) (IsBytes-take n bytes fits)) found.2 in (
       told.there,
       record {
-        spelled = t.2;
-        code = omega (arith, below, t.1);
+        code = from_be_bytes w32 (take 4 (drop 4 bytes));
+        fits = wide32.below (take 4 (drop 4 bytes)) (IsBytes-take 4 (drop 4 bytes) (IsBytes-drop 4 bytes fits));
         rest = drop 8 (take n bytes);
-        laid_out = t.0;
+        spelled = subst (λ (k : StartupKind). (startup_form k).Spells m (drop 8 (take n bytes))) (sym told.kind_is) spelled;
         within = omega (arith, told.high, told.low, told.there, length-drop 8 (take n bytes), length-take n bytes);
-        bytes = parted n bytes fits told.low told.there told.n_is ∙ ap (λ (k : ℕ). startup_packet k (drop 8 (take n bytes))) (sym t.1);
+        bytes = parted n bytes fits told.low told.there told.n_is;
       },
     )
 
@@ -300,8 +260,8 @@ head_kept bytes more h =
 pub startup_kept : (bytes more : List ℕ) → is_more (startup_of bytes) ≡ false → startup_of (bytes ++ more) ≡ startup_of bytes
 unfolding startup_of
 startup_kept bytes more h =
-    let told : is_more_head (startup_head bytes) ≡ false = sym (is_more_packet startup_fields 8 (startup_head bytes) bytes) ∙ h in
-    ap (λ (x : Head StartupKind). packet_of startup_fields 8 x (bytes ++ more)) (head_kept bytes more told) ∙ packet_kept startup_fields 8 (startup_head bytes) bytes more (λ at n is. (head_takes bytes at n is).there)
+    let told : is_more_head (startup_head bytes) ≡ false = sym (is_more_packet startup_body 8 (startup_head bytes) bytes) ∙ h in
+    ap (λ (x : Head StartupKind). packet_of startup_body 8 x (bytes ++ more)) (head_kept bytes more told) ∙ packet_kept startup_body 8 (startup_head bytes) bytes more (λ at n is. (head_takes bytes at n is).there)
 
 -- ---- one packet has these bytes
 
@@ -347,20 +307,35 @@ startup_bad bytes more m packet rest place cause bad is same =
 
 -- ---- what the encoder writes
 
-laid_out : (m : Startup) → IsRest m (startup_layout m)
-laid_out (startup.Start pairs) = refl
-laid_out (startup.Other code) = tt
+sending : (m : Startup) → (startup_sent m).good ≡ true → length (startup_layout m) ≤ size_limit → (startup_form (startup_kind (startup_code (startup_sent m).kind))).Spells m (startup_layout m)
+unfolding startup_form startup_sent
+sending (startup.Start pairs) h small = sent_is _ startup.Start pairs_are pairs _ refl h small
+sending (startup.Other code) h small =
+    let other : (code == protocol_code) ≡ false = not-true (code == protocol_code) (and_parts (not (code == protocol_code)) (ltb code (2 ^ 32)) h).0 in
+    rw other (tt, refl, tt)
 
-pub startup_written : (m : Startup) → startup_code m < 2 ^ 32 → startup_refusal m ≡ None → IsStartup m (startup_bytes m)
-startup_written m code h =
-    let fits = refusal_none (is_spelled_startup m) (length (startup_layout m) + 8) startup_limit h in
-    record { spelled = fits.0; code = code; rest = startup_layout m; laid_out = laid_out m; within = fits.1; bytes = refl }
+code_fits : (m : Startup) → (startup_sent m).good ≡ true → startup_code (startup_sent m).kind < 2 ^ 32
+unfolding startup_sent
+code_fits (startup.Start pairs) h = omega arith
+code_fits (startup.Other code) h = ltb-true code (2 ^ 32) (and_parts (not (code == protocol_code)) (ltb code (2 ^ 32)) h).1
+
+pub startup_written : (m : Startup) → startup_refusal m ≡ None → IsStartup m (startup_bytes m)
+startup_written m h =
+    let fits = refusal_none (startup_sent m).good (length (startup_layout m) + 8) startup_limit h in
+    record {
+      code = startup_code (startup_sent m).kind;
+      fits = code_fits m fits.0;
+      rest = startup_layout m;
+      spelled = sending m fits.0 (omega (arith, fits.1));
+      within = fits.1;
+      bytes = refl;
+    }
 
 -- ---- bounds
 
 pub startup_least : (m : Startup) (n : ℕ) (bytes : List ℕ) → IsStartup m (take n bytes) → 8 ≤ n
 startup_least m n bytes is =
-    omega (arith, ap length is.bytes, length-take n bytes, length-append (to_be_bytes w32 (length is.rest + 8) ++ to_be_bytes w32 (startup_code m)) is.rest, length-append (to_be_bytes w32 (length is.rest + 8)) (to_be_bytes w32 (startup_code m)), wide32.len (length is.rest + 8), wide32.len (startup_code m))
+    omega (arith, ap length is.bytes, length-take n bytes, length-append (to_be_bytes w32 (length is.rest + 8) ++ to_be_bytes w32 is.code) is.rest, length-append (to_be_bytes w32 (length is.rest + 8)) (to_be_bytes w32 is.code), wide32.len (length is.rest + 8), wide32.len is.code)
 
 coded_more : (at : StartupKind) (size : ℕ) (bytes : List ℕ) → is_more_head (coded_head at size bytes) ≡ true → length bytes < size
 coded_more at size bytes h =
@@ -390,7 +365,7 @@ sized_more size rest bytes parts h =
 pub startup_more : (bytes : List ℕ) → is_more (startup_of bytes) ≡ true → length bytes < startup_limit
 unfolding startup_of startup_head
 startup_more bytes h =
-    let told : is_more_head (startup_head bytes) ≡ true = sym (is_more_packet startup_fields 8 (startup_head bytes) bytes) ∙ h in
+    let told : is_more_head (startup_head bytes) ≡ true = sym (is_more_packet startup_body 8 (startup_head bytes) bytes) ∙ h in
     elim (cases_Bool (ltb (length bytes) 4)) [
       | inl short ↦ omega (arith, ltb-true (length bytes) 4 short)
       | inr long ↦ sized_more (from_be_bytes w32 (take 4 bytes)) (drop 4 bytes) bytes (omega (arith, length-drop 4 bytes)) (rw long at told)

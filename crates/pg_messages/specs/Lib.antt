@@ -1,10 +1,7 @@
-pub mod BackReading
-pub mod BackSpelling
-pub mod Fields
-pub mod FrontReading
-pub mod FrontSpelling
+pub mod Back
+pub mod Front
 pub mod Limits
 pub mod Packet
+pub mod Sides
 pub mod Spelling
-pub mod StartupReading
-pub mod StartupSpelling
+pub mod Startup

@@ -16,11 +16,3 @@ startup_limit = 10000
 -- the code of a StartupMessage, the protocol's number 3.0
 abbrev pub protocol_code : ℕ
 protocol_code = 196608
-
--- the most items that a message can count
-abbrev pub count_limit : ℕ
-count_limit = 65535
-
--- the number -1 as four bytes
-abbrev pub minus_one : ℕ
-minus_one = 4294967295

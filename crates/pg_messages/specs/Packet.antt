@@ -1,11 +1,11 @@
 -- Packets as they are read: the head tells which packet it is and its length, and then the body is read.
-use Rattle.std.specs.Prelude.{◌≡◌, ℕ, ◌+◌, ◌-◌, ◌≤◌, ◌==◌, Bool, true, false, ◌||◌, List, length, take, drop, Option, Some, None, Result, Ok, Err, nat_lt, if◌then◌else◌}
+use Rattle.std.specs.Prelude.{◌≡◌, ℕ, ◌+◌, ◌-◌, ◌≤◌, Bool, true, false, ◌||◌, List, length, take, drop, Option, Some, None, Result, Ok, Err, nat_lt, if◌then◌else◌}
 use Rattle.std.specs.Int.{w32, from_be_bytes}
 use Rattle.pg_messages.specs.declared.decoded.Decoded.{Decoded}
 use Rattle.pg_messages.specs.declared.decoded.Decoded.TheVariants as decoded
 use Rattle.pg_messages.specs.declared.decoded.Why.TheVariants as why
-use Rattle.pg_messages.specs.declared.fields.Fault.{Fault}
-use Rattle.pg_messages.specs.declared.fields.Fault.TheVariants as fault
+use Rattle.message_shapes.specs.declared.fields.Fault.{Fault}
+use Rattle.message_shapes.specs.declared.fields.Fault.TheVariants as fault
 use Rattle.pg_messages.specs.declared.packet.Head.{Head}
 use Rattle.pg_messages.specs.declared.packet.Head.TheVariants as head
 
@@ -57,10 +57,6 @@ unfoldable pub message_head : {K : Type 0} → ℕ → Option K → List ℕ →
 message_head most None rest = head.Bad 0 why.TypeByte
 message_head most (Some kind) rest =
     if nat_lt (length rest) 4 then head.More else sized_head most kind rest (from_be_bytes w32 (take 4 rest))
-
--- what is read is all of the body
-abbrev pub ended : {X : Type 0} → X × List ℕ → Result X ℕ
-ended x = if length x.1 == 0 then Ok x.0 else Err (length x.1)
 
 -- the answer on a packet of n bytes, of whose body this was read
 abbrev pub decoded_as : {T : Type 0} → ℕ → Result T ℕ → Decoded T

@@ -1,29 +1,17 @@
 -- How the parts of a packet are spelled, and which values have a spelling.
-use Rattle.std.specs.Prelude.{◌≡◌, ℕ, ◌+◌, ◌-◌, ◌^◌, ◌<◌, ◌==◌, slice_index, Bool, not, min, List, [], ◌∷◌, ◌++◌, length, Option, Some, None, Result, Ok, Err, nat_lt, if◌then◌else◌}
+use Rattle.std.specs.Prelude.{◌≡◌, ℕ, ◌+◌, ◌-◌, ◌^◌, Bool, min, List, ◌∷◌, ◌++◌, length, Option, Some, None, Result, Ok, Err, nat_lt, if◌then◌else◌}
 use Rattle.std.specs.Int.{w32, to_be_bytes}
-use Rattle.std.specs.List.{list_all}
+use Rattle.message_shapes.specs.Shapes.{one_byte, number_bytes}
 use Rattle.pg_messages.specs.declared.encode_refused.EncodeRefused.{EncodeRefused}
 use Rattle.pg_messages.specs.declared.encode_refused.EncodeRefused.TheVariants as refused
-
-abbrev pub IsBytes : List ℕ → Type 0
-IsBytes bytes = (i : ℕ) → slice_index bytes i < 256
-
--- bytes may stand as a string if none of them is zero
-abbrev pub is_string : List ℕ → Bool
-is_string bytes = list_all (λ byte. not (byte == 0)) bytes
-
--- a string ends with a zero byte
-abbrev pub string : List ℕ → List ℕ
-string bytes = bytes ++ 0 ∷ []
-
--- the texts of the values, one behind the other
-abbrev pub AreSpelled : {X : Type 0} → (X → List ℕ → Type 0) → List X → List ℕ → Type 0
-AreSpelled IsText [] text = text ≡ []
-AreSpelled IsText (x ∷ xs) text = (first others : List ℕ) × (text ≡ first ++ others) × IsText x first × AreSpelled IsText xs others
 
 -- a message with this type byte; its length counts itself and the body
 abbrev pub message : ℕ → List ℕ → List ℕ
 message kind body = kind ∷ to_be_bytes w32 (length body + 4) ++ body
+
+-- the type byte and the length of a message
+unfoldable pub head_bytes : ℕ → ℕ → List ℕ
+head_bytes kind size = one_byte kind ++ number_bytes w32 size
 
 -- a number of bytes as it is told, which the greatest u64 stands for where it is above that
 abbrev pub capped : ℕ → ℕ

@@ -3,12 +3,6 @@ use values::{List, Text};
 /// The greatest length of a backend message.
 pub const BACK_LIMIT: u32 = 2_147_483_647;
 
-/// The most items that a message can count.
-pub const COUNT_LIMIT: usize = 65_535;
-
-/// The number -1 as four bytes: the length of a null cell, and the modifier of a type that has none.
-pub const MINUS_ONE: u32 = 4_294_967_295;
-
 /// A message of a server.
 #[derive(Debug, Drop)]
 pub enum Back {
@@ -42,7 +36,7 @@ pub enum BackKind {
 }
 
 /// Where a session's transaction stands.
-#[derive(Clone, Copy, Debug, PartialEq, Eq)]
+#[derive(Clone, Copy, Debug, PartialEq, Eq, Drop)]
 pub enum Status {
     Idle,
     InBlock,

@@ -1,26 +1,24 @@
 ghost use Rattle.std.specs.Prelude.{◌≡◌, ℕ, ◌+◌, ◌^◌, ◌<◌, ◌≤◌, true, false, List, ◌++◌, length, take};
 ghost use Rattle.pg_messages.specs.declared.back.Back.{Back};
-ghost use Rattle.pg_messages.specs.declared.back.TheConstants.{BACK_LIMIT, COUNT_LIMIT, MINUS_ONE};
+ghost use Rattle.pg_messages.specs.declared.back.TheConstants.{BACK_LIMIT};
 ghost use Rattle.pg_messages.specs.declared.decoded.Decoded.TheVariants as decoded;
 ghost use Rattle.pg_messages.specs.declared.decoded.Why.{Why};
 ghost use Rattle.pg_messages.specs.declared.front.Front.{Front};
 ghost use Rattle.pg_messages.specs.declared.front.TheConstants.{FRONT_LIMIT};
 ghost use Rattle.pg_messages.specs.declared.startup.Startup.{Startup};
 ghost use Rattle.pg_messages.specs.declared.startup.TheConstants.{STARTUP_CODE, STARTUP_LIMIT};
-ghost use Rattle.pg_messages.specs.BackReading.{back_of};
-ghost use Rattle.pg_messages.specs.BackSpelling.{back_bytes, back_refusal, HasNumbers, IsBack};
-ghost use Rattle.pg_messages.specs.FrontReading.{front_of};
-ghost use Rattle.pg_messages.specs.FrontSpelling.{front_bytes, front_refusal, IsFront};
-ghost use Rattle.pg_messages.specs.Limits.{front_limit, back_limit, startup_limit, protocol_code, count_limit, minus_one};
+ghost use Rattle.pg_messages.specs.Back.{back_side, back_of, back_bytes, back_refusal, IsBack};
+ghost use Rattle.pg_messages.specs.Front.{front_side, front_of, front_bytes, front_refusal, IsFront};
+ghost use Rattle.pg_messages.specs.Limits.{front_limit, back_limit, startup_limit, protocol_code};
 ghost use Rattle.pg_messages.specs.Packet.{is_more};
-ghost use Rattle.pg_messages.specs.Spelling.{IsBytes};
-ghost use Rattle.pg_messages.specs.StartupReading.{startup_of};
-ghost use Rattle.pg_messages.specs.StartupSpelling.{startup_bytes, startup_code, startup_refusal, IsStartup};
+ghost use Rattle.message_shapes.specs.Spelling.{IsBytes};
+ghost use Rattle.pg_messages.specs.Sides.{IsMalformed};
+ghost use Rattle.pg_messages.specs.Startup.{startup_of, startup_bytes, startup_refusal, IsStartup};
 
 /// Laws of the start-up packets, of all values and all bytes. The call itself does nothing.
 pub fn startup_laws()
     // What the encoder writes spells its value.
-    ensures written { (m : Startup) → startup_code m < 2 ^ 32 → startup_refusal m ≡ None → IsStartup m (startup_bytes m) }
+    ensures written { (m : Startup) → startup_refusal m ≡ None → IsStartup m (startup_bytes m) }
     // What is spelled is read, whatever follows it.
     ensures read { (m : Startup) (packet rest : List ℕ) → IsStartup m packet → startup_of (packet ++ rest) ≡ decoded.Whole m (length packet) }
     // What is read is spelled so by its bytes.
@@ -51,6 +49,9 @@ pub fn front_laws()
     ensures front { (bytes more : List ℕ) (m : Front) → IsBytes bytes → 0 < length more → IsFront m (bytes ++ more) → front_of bytes ≡ decoded.More }
     // Bad bytes begin no packet, and no packet begins them.
     ensures bad { (bytes more : List ℕ) (m : Front) (packet rest : List ℕ) (place : ℕ) (cause : Why) → front_of bytes ≡ decoded.Bad place cause → IsFront m packet → bytes ++ more ≡ packet ++ rest → ⊥ }
+    // Bytes are bad where the grammar says, and at no other place.
+    ensures malformed { (bytes : List ℕ) (place : ℕ) (cause : Why) → IsBytes bytes → front_of bytes ≡ decoded.Bad place cause → IsMalformed front_side bytes place cause }
+    ensures refused { (bytes : List ℕ) (place : ℕ) (cause : Why) → IsBytes bytes → IsMalformed front_side bytes place cause → front_of bytes ≡ decoded.Bad place cause }
     // What is waited for is shorter than the longest packet.
     ensures waits { (bytes : List ℕ) → is_more (front_of bytes) ≡ true → length bytes ≤ front_limit }
     // What lies behind a packet, be it whole or bad, changes nothing.
@@ -60,7 +61,7 @@ pub fn front_laws()
 /// Laws of the backend messages, of all values and all bytes. The call itself does nothing.
 pub fn back_laws()
     // What the encoder writes spells its value.
-    ensures written { (m : Back) → HasNumbers m → back_refusal m ≡ None → IsBack m (back_bytes m) }
+    ensures written { (m : Back) → back_refusal m ≡ None → IsBack m (back_bytes m) }
     // What is spelled is read, whatever follows it.
     ensures read { (m : Back) (packet rest : List ℕ) → IsBack m packet → back_of (packet ++ rest) ≡ decoded.Whole m (length packet) }
     // What is read is spelled so by its bytes.
@@ -71,6 +72,9 @@ pub fn back_laws()
     ensures front { (bytes more : List ℕ) (m : Back) → IsBytes bytes → 0 < length more → IsBack m (bytes ++ more) → back_of bytes ≡ decoded.More }
     // Bad bytes begin no packet, and no packet begins them.
     ensures bad { (bytes more : List ℕ) (m : Back) (packet rest : List ℕ) (place : ℕ) (cause : Why) → back_of bytes ≡ decoded.Bad place cause → IsBack m packet → bytes ++ more ≡ packet ++ rest → ⊥ }
+    // Bytes are bad where the grammar says, and at no other place.
+    ensures malformed { (bytes : List ℕ) (place : ℕ) (cause : Why) → IsBytes bytes → back_of bytes ≡ decoded.Bad place cause → IsMalformed back_side bytes place cause }
+    ensures refused { (bytes : List ℕ) (place : ℕ) (cause : Why) → IsBytes bytes → IsMalformed back_side bytes place cause → back_of bytes ≡ decoded.Bad place cause }
     // What is waited for is shorter than the longest packet.
     ensures waits { (bytes : List ℕ) → is_more (back_of bytes) ≡ true → length bytes ≤ back_limit }
     // What lies behind a packet, be it whole or bad, changes nothing.
@@ -83,6 +87,4 @@ pub fn limit_laws()
     ensures back { BACK_LIMIT ≡ back_limit }
     ensures startup { STARTUP_LIMIT ≡ startup_limit }
     ensures code { STARTUP_CODE ≡ protocol_code }
-    ensures count { COUNT_LIMIT ≡ count_limit }
-    ensures null { MINUS_ONE ≡ minus_one }
 {}

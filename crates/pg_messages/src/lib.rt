@@ -4,30 +4,28 @@
 #![tactic(auto)]
 
 mod back;
-mod back_reading;
-mod back_writing;
+mod back_codec;
 mod decoded;
 mod encode_refused;
-mod fields;
 mod front;
-mod front_reading;
-mod front_writing;
+mod front_codec;
 mod laws;
 mod packet;
-mod puts;
+mod room;
 mod startup;
-mod startup_reading;
-mod startup_writing;
+mod startup_codec;
 
 pub use back::{BACK_LIMIT, Back, ErrorField, Field, Status};
-pub use back_reading::decode_back;
-pub use back_writing::encode_back;
+pub use back_codec::{back_len, decode_back, encode_back, encode_back_from};
 pub use decoded::{Decoded, Why};
 pub use encode_refused::EncodeRefused;
 pub use front::{FRONT_LIMIT, Front};
-pub use front_reading::{decided_front, decode_front, front_length};
-pub use front_writing::encode_front;
+pub use front_codec::{
+    decided_front, decode_front, encode_front, encode_front_from, front_len, front_length,
+};
 pub use laws::{back_laws, front_laws, limit_laws, startup_laws};
 pub use startup::{Pair, STARTUP_LIMIT, Startup};
-pub use startup_reading::{decided_startup, decode_startup, startup_length};
-pub use startup_writing::encode_startup;
+pub use startup_codec::{
+    decided_startup, decode_startup, encode_startup, encode_startup_from, startup_len,
+    startup_length,
+};

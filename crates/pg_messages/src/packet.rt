@@ -1,10 +1,12 @@
 //! What the first bytes of a packet tell: which it is, and how many bytes it has.
 
 ghost use Rattle.std.specs.Prelude.{◌≡◌, ◌+◌, ◌≤◌, length};
+ghost use Rattle.message_shapes.specs.Walks.{Puts};
+ghost use Rattle.pg_messages.specs.Spelling.{head_bytes};
 ghost use Rattle.pg_messages.specs.Packet.{IsWithin, message_head, decoded_from};
 
 use crate::decoded::{Decoded, Why};
-use crate::fields::Fault;
+use message_shapes::{Fault, Walk, put_byte, put_u32};
 
 /// The bytes before a message's body: its type byte and its length.
 pub const MESSAGE_HEAD: usize = 5;
@@ -50,4 +52,15 @@ pub fn decoded<T>(length: usize, read: Result<T, Fault>) -> Decoded<T>
         Err(Fault::Before(left)) => Decoded::Bad(length.saturating_sub(left), Why::Body),
         Err(Fault::Memory) => Decoded::Memory,
     }
+}
+
+/// The type byte and the length of a message are next.
+#[tactic(auto, unfolding(crate::specs::Spelling::head_bytes), using(message_shapes::proofs::Steps::step_append))]
+pub fn put_head(byte: u8, size: u32, at: &mut Walk, space: &mut [u8])
+    requires { at.old.filled ≤ length space.old }
+    ensures puts { Puts (head_bytes byte size) at.old space.old at.new space.new }
+    ensures within { at.new.filled ≤ length space.new }
+{
+    put_byte(byte, at, space);
+    put_u32(size, at, space);
 }

@@ -1,7 +1,7 @@
 -- Sums of replies, and events that fit a log.
 use Rattle.std.proofs.Common.{◌≡◌, ◌∙◌, ℕ, List, [], ◌∷◌, ◌++◌, refl, sym, ap, subst, append_assoc}
 use Rattle.std.proofs.lemmas.Grind.{flat_map-append}
-use Rattle.pg_messages.specs.BackSpelling.{back_bytes}
+use Rattle.pg_messages.specs.Back.{back_bytes}
 use Rattle.pg_messages.specs.declared.back.Back.{Back}
 use Rattle.session_poll.specs.declared.session.Session.{Session}
 use Rattle.session_poll.specs.Courses.{Course, Event}

@@ -1,10 +1,10 @@
 -- A step of the session machine, by what its rule left.
 use Rattle.std.proofs.Common.{◌≡◌, ◌∙◌, ℕ, ◌≤◌, true, not, List, [], ◌++◌, length, take, drop, Option, Some, None, refl, sym, ap, subst, take-append-drop, take_all, le_of_eq}
-use Rattle.pg_messages.specs.FrontReading.{front_head, front_of}
-use Rattle.pg_messages.specs.FrontSpelling.{IsFront}
+use Rattle.pg_messages.specs.Front.{front_head, front_of}
+use Rattle.pg_messages.specs.Front.{IsFront}
 use Rattle.pg_messages.specs.Packet.{length_of, is_more}
-use Rattle.pg_messages.specs.StartupReading.{startup_head, startup_of}
-use Rattle.pg_messages.specs.StartupSpelling.{IsStartup}
+use Rattle.pg_messages.specs.Startup.{startup_head, startup_of}
+use Rattle.pg_messages.specs.Startup.{IsStartup}
 use Rattle.pg_messages.specs.declared.back.Back.{Back}
 use Rattle.pg_messages.specs.declared.decoded.Decoded.TheVariants as decoded
 use Rattle.pg_messages.specs.declared.decoded.Why.{Why}

@@ -1,6 +1,6 @@
 -- What is put behind the bytes that wait.
 use Rattle.std.proofs.Common.{◌≡◌, ◌∙◌, ℕ, ◌<◌, ◌≤◌, false, List, [], ◌∷◌, ◌++◌, length, take, drop, refl, sym, ap, subst, arith, drop-cons, length-append, le_of_eq, take_all, append_assoc}
-use Rattle.pg_messages.specs.BackSpelling.{back_bytes}
+use Rattle.pg_messages.specs.Back.{back_bytes}
 use Rattle.pg_messages.specs.declared.back.Back.{Back}
 use Rattle.session_poll.specs.Output.{is_empty, KeepsFront}
 use Rattle.session_poll.specs.Replies.{spelled}

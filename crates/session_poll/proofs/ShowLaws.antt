@@ -1,6 +1,6 @@
 -- A query of a Query: it is typed and answered, and the Query goes on behind it.
 use Rattle.std.proofs.Common.{◌≡◌, ◌∙◌, ℕ, true, List, [], ◌∷◌, ◌++◌, length, inl, inr, Option, Some, None, Ok, Err, refl, sym, ap, subst, append-nil}
-use Rattle.pg_messages.specs.BackSpelling.{back_bytes}
+use Rattle.pg_messages.specs.Back.{back_bytes}
 use Rattle.pg_messages.specs.declared.back.Back.{Back}
 use Rattle.query_meaning.specs.Typing.{Refuses}
 use Rattle.query_meaning.specs.declared.ill.TypeRefused.{TypeRefused}

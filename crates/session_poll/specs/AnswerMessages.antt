@@ -13,7 +13,7 @@ use Rattle.values.specs.declared.value.Value.TheVariants as value
 use Rattle.pg_messages.specs.declared.back.Back.{Back}
 use Rattle.pg_messages.specs.declared.back.Back.TheVariants as back
 use Rattle.pg_messages.specs.declared.back.Field.{Field}
-use Rattle.pg_messages.specs.BackSpelling.{back_layout}
+use Rattle.pg_messages.specs.Back.{back_layout}
 use Rattle.pg_messages.specs.Limits.{back_limit}
 use Rattle.pg_messages.specs.Spelling.{capped}
 use Rattle.query_meaning.specs.declared.typed.TypedColumn.{TypedColumn}

@@ -1,9 +1,9 @@
 -- How the grammar of messages cuts the input into packets.
 use Rattle.std.specs.Prelude.{◌≡◌, ℕ, Bool, true, false, List, []}
-use Rattle.pg_messages.specs.FrontReading.{front_of}
-use Rattle.pg_messages.specs.FrontSpelling.{IsFront}
-use Rattle.pg_messages.specs.StartupReading.{startup_of}
-use Rattle.pg_messages.specs.StartupSpelling.{IsStartup}
+use Rattle.pg_messages.specs.Front.{front_of}
+use Rattle.pg_messages.specs.Front.{IsFront}
+use Rattle.pg_messages.specs.Startup.{startup_of}
+use Rattle.pg_messages.specs.Startup.{IsStartup}
 use Rattle.pg_messages.specs.declared.decoded.Decoded.{Decoded}
 use Rattle.pg_messages.specs.declared.decoded.Decoded.TheVariants as decoded
 use Rattle.pg_messages.specs.declared.front.Front.TheVariants as front

@@ -1,7 +1,7 @@
 -- The messages that a session sends.
 use Rattle.std.specs.Prelude.{ℕ, Bool, true, false, List, [], ◌∷◌, ◌++◌, codes, decimal, Option, Some, None}
 use Rattle.std.specs.List.{flat_map}
-use Rattle.pg_messages.specs.BackSpelling.{back_bytes}
+use Rattle.pg_messages.specs.Back.{back_bytes}
 use Rattle.pg_messages.specs.declared.back.Back.{Back}
 use Rattle.pg_messages.specs.declared.back.Back.TheVariants as back
 use Rattle.pg_messages.specs.declared.back.ErrorField.{ErrorField}

@@ -1,8 +1,8 @@
 -- How a session stands between two polls.
 use Rattle.std.specs.Prelude.{◌≡◌, ℕ, Bool, true, false, not, ◌&&◌, ◌||◌, List, ◌⊎◌}
-use Rattle.pg_messages.specs.FrontReading.{front_of}
+use Rattle.pg_messages.specs.Front.{front_of}
 use Rattle.pg_messages.specs.Packet.{is_more}
-use Rattle.pg_messages.specs.StartupReading.{startup_of}
+use Rattle.pg_messages.specs.Startup.{startup_of}
 use Rattle.session_poll.specs.declared.polled.Polled.{Polled}
 use Rattle.session_poll.specs.declared.polled.Polled.TheVariants as polled
 use Rattle.session_poll.specs.declared.session.Session.{Session}

@@ -1,7 +1,7 @@
 ghost use Rattle.std.specs.Prelude.{◌≡◌, ◌≤◌, ◌+◌, true, false, [], ◌++◌, length, take, drop, vec_len, vec_capacity, IfOk, OnOk, OnErr};
 ghost use Rattle.session_poll.specs.DataRows.{row_bytes};
 ghost use Rattle.session_poll.specs.declared.output.TheConstants.{CELLS_LIMIT};
-ghost use Rattle.pg_messages.specs.BackSpelling.{back_bytes};
+ghost use Rattle.pg_messages.specs.Back.{back_bytes};
 ghost use Rattle.session_poll.specs.Replies.{spelled};
 ghost use Rattle.session_poll.specs.AnswerMessages.{message_too_long, too_long_by};
 ghost use Rattle.session_poll.specs.Output.{KeepsFront, is_empty};

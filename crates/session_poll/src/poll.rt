@@ -1,11 +1,11 @@
 //! A poll: none or one step of the session machine.
 
 ghost use Rattle.std.specs.Prelude.{◌≡◌, ◌≤◌, ◌++◌, true, false, not, length, take, drop, is_some, min, IfOk, IfSome, OnErr};
-ghost use Rattle.pg_messages.specs.FrontReading.{front_head, front_of};
-ghost use Rattle.pg_messages.specs.FrontSpelling.{IsFront};
+ghost use Rattle.pg_messages.specs.Front.{front_head, front_of};
+ghost use Rattle.pg_messages.specs.Front.{IsFront};
 ghost use Rattle.pg_messages.specs.Packet.{Answers, IfWhole, IfMemory, length_of};
-ghost use Rattle.pg_messages.specs.StartupReading.{startup_head, startup_of};
-ghost use Rattle.pg_messages.specs.StartupSpelling.{IsStartup};
+ghost use Rattle.pg_messages.specs.Startup.{startup_head, startup_of};
+ghost use Rattle.pg_messages.specs.Startup.{IsStartup};
 ghost use Rattle.session_poll.specs.declared.state.Phase.TheVariants as phases;
 ghost use Rattle.session_poll.specs.Parts.{BeginsStartup, BeginsQuery, Drops, Skips, Moves, Takes, WantsMemory};
 ghost use Rattle.session_poll.specs.Polls.{Polls};

@@ -3,8 +3,8 @@
 ghost use Rattle.std.specs.Prelude.{◌≡◌, ◌++◌, true, map, Some, IfOk, IfSome, OnOk, OnErr};
 ghost use Rattle.std.specs.Fmt.{signed_decimal};
 ghost use Rattle.std.specs.List.{flat_map};
-ghost use Rattle.pg_messages.specs.BackSpelling.{cell_bytes};
-ghost use Rattle.pg_messages.specs.BackSpelling.{back_bytes};
+ghost use Rattle.message_shapes.specs.Shapes.{sized_bytes};
+ghost use Rattle.pg_messages.specs.Back.{back_bytes};
 ghost use Rattle.feature_expr.specs.Printing.{text_of};
 ghost use Rattle.session_poll.specs.AnswerMessages.{cell_text, data_row, message_too_long, row_with, too_long, value_text};
 ghost use Rattle.session_poll.specs.Output.{KeepsFront};
@@ -64,7 +64,7 @@ fn condition_text(
 }
 
 /// Puts a row, whose last cell is its condition. Its cells are made in `cells`, whatever stood there.
-#[tactic(auto, using(crate::proofs::RowLaws::row_put, crate::proofs::RowLaws::row_long))]
+#[tactic(auto, using(crate::proofs::RowLaws::row_cells, crate::proofs::RowLaws::row_long))]
 fn put_row(
     row: &[Option<Value>],
     condition: &[u8],
@@ -84,7 +84,7 @@ fn put_row(
 }
 
 fn push_cells(row: &[Option<Value>], cells: &mut Vec<u8>) -> Result<(), Memory>
-    ensures { OnOk result (cells.new.items ≡ cells.old.items ++ flat_map cell_bytes (map cell_text row.now)) }
+    ensures { OnOk result (cells.new.items ≡ cells.old.items ++ flat_map sized_bytes (map cell_text row.now)) }
 {
     'cells: for cell in row {
         push_cell(cell, cells)?;
@@ -92,8 +92,9 @@ fn push_cells(row: &[Option<Value>], cells: &mut Vec<u8>) -> Result<(), Memory>
     Ok(())
 }
 
+#[tactic(auto, unfolding(message_shapes::specs::Shapes::sized_bytes))]
 fn push_cell(cell: &Option<Value>, cells: &mut Vec<u8>) -> Result<(), Memory>
-    ensures { OnOk result (cells.new.items ≡ cells.old.items ++ cell_bytes (cell_text cell.now)) }
+    ensures { OnOk result (cells.new.items ≡ cells.old.items ++ sized_bytes (cell_text cell.now)) }
 {
     match cell {
         Some(value) => push_value(value, cells),
@@ -106,7 +107,7 @@ fn push_cell(cell: &Option<Value>, cells: &mut Vec<u8>) -> Result<(), Memory>
 
 /// A value in text form, behind its length.
 fn push_value(value: &Value, cells: &mut Vec<u8>) -> Result<(), Memory>
-    ensures { OnOk result (cells.new.items ≡ cells.old.items ++ cell_bytes (Some (value_text value.now))) }
+    ensures { OnOk result (cells.new.items ≡ cells.old.items ++ sized_bytes (Some (value_text value.now))) }
 {
     match value {
         Value::Int(number) => push_number(*number, cells),
@@ -117,15 +118,16 @@ fn push_value(value: &Value, cells: &mut Vec<u8>) -> Result<(), Memory>
 }
 
 fn push_number(number: i64, cells: &mut Vec<u8>) -> Result<(), Memory>
-    ensures { OnOk result (cells.new.items ≡ cells.old.items ++ cell_bytes (Some (signed_decimal number))) }
+    ensures { OnOk result (cells.new.items ≡ cells.old.items ++ sized_bytes (Some (signed_decimal number))) }
 {
     let mut buffer = Buffer::new();
     push_text(buffer.format(number).as_bytes(), cells)
 }
 
 /// A text behind its length. One whose length can't be told counts as want of memory.
+#[tactic(auto, unfolding(message_shapes::specs::Shapes::sized_bytes))]
 fn push_text(text: &[u8], cells: &mut Vec<u8>) -> Result<(), Memory>
-    ensures { OnOk result (cells.new.items ≡ cells.old.items ++ cell_bytes (Some text.now)) }
+    ensures { OnOk result (cells.new.items ≡ cells.old.items ++ sized_bytes (Some text.now)) }
 {
     let Ok(length) = u32::try_from(text.len()) else {
         return Err(Memory);

@@ -1,14 +1,18 @@
-use Rattle.pg_messages.proofs.BackLaws.{back_written, back_again, back_takes, back_one, back_front, back_bad, back_kept, back_more}
+use Rattle.pg_messages.specs.Back.{back_side}
+use Rattle.pg_messages.proofs.BackLaws.{back_is, back_written, back_more}
+use Rattle.pg_messages.proofs.SideLaws as side
 use Rattle.pg_messages.proofs.laws.back_laws.Goals as goal
 
 pub returns : goal.returns
 returns c = record {
   written = back_written;
-  read = back_again;
-  spelled = back_takes;
-  one = back_one;
-  front = back_front;
-  bad = back_bad;
+  read = side.again back_side back_is;
+  spelled = side.takes back_side back_is;
+  one = side.one back_side back_is;
+  front = side.front back_side back_is;
+  bad = side.bad back_side back_is;
+  malformed = side.malformed back_side back_is;
+  refused = side.refused back_side back_is;
   waits = back_more;
-  behind = back_kept;
+  behind = side.kept back_side;
 }

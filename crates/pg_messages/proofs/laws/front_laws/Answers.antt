@@ -1,14 +1,18 @@
-use Rattle.pg_messages.proofs.FrontLaws.{front_written, front_again, front_takes, front_one, front_front, front_bad, front_kept, front_more}
+use Rattle.pg_messages.specs.Front.{front_side}
+use Rattle.pg_messages.proofs.FrontLaws.{front_is, front_written, front_more}
+use Rattle.pg_messages.proofs.SideLaws as side
 use Rattle.pg_messages.proofs.laws.front_laws.Goals as goal
 
 pub returns : goal.returns
 returns c = record {
   written = front_written;
-  read = front_again;
-  spelled = front_takes;
-  one = front_one;
-  front = front_front;
-  bad = front_bad;
+  read = side.again front_side front_is;
+  spelled = side.takes front_side front_is;
+  one = side.one front_side front_is;
+  front = side.front front_side front_is;
+  bad = side.bad front_side front_is;
+  malformed = side.malformed front_side front_is;
+  refused = side.refused front_side front_is;
   waits = front_more;
-  behind = front_kept;
+  behind = side.kept front_side;
 }
