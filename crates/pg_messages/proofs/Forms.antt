@@ -38,10 +38,10 @@ pub formed_is : {X T : Type 0} (shape : Shape X) (made : X → T) → IsShape sh
 unfolding formed_at
 formed_is {X = X} {T = T} shape made is = record {
   takes = λ bytes m rest fits e.
-    let a = bind_ok (shape.read bytes) (λ x. Ok (made x.0, x.1)) (m, rest) e in
-    let one = is.takes bytes a.0.0 a.0.1 fits a.1 in
-    let all : (text : List ℕ) × (formed shape made).Spells (made a.0.0) text × Takes bytes text a.0.1 = (one.0, (a.0.0, refl {a = made a.0.0}, one.1), one.2) in
-    subst (λ (z : T × List ℕ). (text : List ℕ) × (formed shape made).Spells z.0 text × Takes bytes text z.1) (ok_is (made a.0.0, a.0.1) (m, rest) a.2) all;
+      let a = bind_ok (shape.read bytes) (λ x. Ok (made x.0, x.1)) (m, rest) e in
+      let one = is.takes bytes a.0.0 a.0.1 fits a.1 in
+      let all : (text : List ℕ) × (formed shape made).Spells (made a.0.0) text × Takes bytes text a.0.1 = (one.0, (a.0.0, refl {a = made a.0.0}, one.1), one.2) in
+      subst (λ (z : T × List ℕ). (text : List ℕ) × (formed shape made).Spells z.0 text × Takes bytes text z.1) (ok_is (made a.0.0, a.0.1) (m, rest) a.2) all;
   again = λ m text rest h. via_ok made shape.read (text ++ rest) rest h.0 m (is.again h.0 text rest h.2) h.1;
   broken = λ bytes left fits e. is.broken bytes left fits (made_fault (shape.read bytes) (λ x. (made x.0, x.1)) left e);
   breaks = λ bytes left fits h. ap (λ r. r >>= λ x. Ok (made x.0, x.1)) (is.breaks bytes left fits h);
@@ -50,9 +50,9 @@ formed_is {X = X} {T = T} shape made is = record {
 pub fields_form : {T : Type 0} (f : Form T) → HasFields f → IsForm f
 fields_form f is = record {
   takes = λ body m fits e.
-    let t = is.takes body m [] fits e in
-    let all : body ≡ t.0 = t.2.parts ∙ append-nil t.0 in
-    subst (f.Spells m) (sym all) t.1;
+      let t = is.takes body m [] fits e in
+      let all : body ≡ t.0 = t.2.parts ∙ append-nil t.0 in
+      subst (f.Spells m) (sym all) t.1;
   again = λ m body h. ap f.read (sym (append-nil body)) ∙ is.again m body [] h;
 }
 
