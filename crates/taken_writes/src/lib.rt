@@ -5,4 +5,5 @@ mod below;
 mod fit;
 mod taken;
 
+pub use fit::is_fit;
 pub use taken::is_taken;
