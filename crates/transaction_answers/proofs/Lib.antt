@@ -1,0 +1,6 @@
+mod MemberLaws
+mod OverLaws
+mod ParamLaws
+mod SameLaws
+mod SeenLaws
+mod TableLaws
