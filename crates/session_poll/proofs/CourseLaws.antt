@@ -6,7 +6,7 @@ use Rattle.pg_messages.specs.declared.back.Back.{Back}
 use Rattle.session_poll.specs.declared.session.Session.{Session}
 use Rattle.session_poll.specs.Courses.{Course, Event}
 use Rattle.session_poll.specs.Parts.{Keeps, KeepsLog}
-use Rattle.session_poll.specs.Replies.{spelled}
+use Rattle.session_replies.specs.Replies.{spelled}
 use Rattle.session_poll.specs.Runs.{AllFit, HasSnapshot}
 use Rattle.session_poll.specs.Session.{state_of}
 use Rattle.session_poll.specs.State.{State, Idle}

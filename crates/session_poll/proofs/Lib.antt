@@ -2,13 +2,10 @@ mod AnswerLaws
 mod BeginLaws
 mod CourseLaws
 mod FixedLaws
-mod LengthLaws
 mod MoveLaws
-mod OutputLaws
 mod ParamLaws
 mod PollLaws
 mod QueryLaws
-mod RowLaws
 mod RunLaws
 mod SessionLaws
 mod ShowLaws

@@ -22,7 +22,7 @@ use Rattle.session_poll.specs.Courses.{Course, Input, StartUp, Message, Bad, Unr
 use Rattle.session_poll.specs.Packets.{is_bad, IsStartupMessage, IsQuery, IsReadAs}
 use Rattle.session_poll.specs.Parts.{Same, Drops, BeginsStartup, BeginsQuery, Skips, Takes, Moved, Idles}
 use Rattle.session_poll.specs.Queries.{RunsStatement, RunsOut, EndsQuery}
-use Rattle.session_poll.specs.Replies.{spelled}
+use Rattle.session_replies.specs.Replies.{spelled}
 use Rattle.session_poll.specs.Runs.{HasSnapshot}
 use Rattle.session_poll.specs.Session.{state_of, held_of}
 use Rattle.session_poll.specs.Standing.{works}

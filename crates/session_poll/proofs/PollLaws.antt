@@ -1,14 +1,15 @@
 -- A poll, by whether a step was taken.
-use Rattle.std.proofs.Common.{◌≡◌, ◌∙◌, ℕ, Bool, true, false, List, [], ◌∷◌, ◌++◌, inl, inr, refl, sym, ap, subst, append-nil, true≢false, arith}
+use Rattle.std.proofs.Common.{◌<◌, ◌≡◌, ◌∙◌, ℕ, Bool, true, false, List, [], ◌∷◌, ◌++◌, inl, inr, refl, sym, ap, subst, append-nil, true≢false, arith}
+use Rattle.session_replies.specs.declared.output.TheConstants.{STEP_ROOM}
 use Rattle.session_poll.specs.declared.opening.Opening.{Opening}
 use Rattle.session_poll.specs.declared.polled.Polled.{Polled}
 use Rattle.session_poll.specs.declared.polled.Polled.TheVariants as polled
 use Rattle.session_poll.specs.declared.session.Session.{Session}
-use Rattle.session_poll.specs.Output.{is_empty}
+use Rattle.session_replies.specs.Output.{is_empty}
 use Rattle.session_poll.specs.Packets.{IsReadAs}
 use Rattle.session_poll.specs.Parts.{Same, WantsMemory, Moves}
 use Rattle.session_poll.specs.Polls.{Polls}
-use Rattle.session_poll.specs.Replies.{spelled}
+use Rattle.session_replies.specs.Replies.{spelled}
 use Rattle.session_poll.specs.Runs.{Did, HasSnapshot, IsAt}
 use Rattle.session_poll.specs.Session.{held_of, waiting_of}
 use Rattle.session_poll.specs.Standing.{polled_as, standing_of, works}
@@ -44,12 +45,12 @@ polls_full opening old new wants = record {
   one = omega arith;
   on = on_nothing opening old new wants.same;
   says = inr (refl, wants.full);
-  looks = λ is. absurd (true≢false (sym is ∙ wants.before));
+  looks = λ is. let before = wants.before in absurd (omega (arith, is, before));
   busy = λ is. absurd (not_again polled.NeedOutput refl is);
   over = wants.same.input.over;
 }
 
-pub wants_memory : (old new : Session) → old.output.is_ready ≡ false → is_empty (waiting_of old) ≡ false → new ≡ old → WantsMemory old new
+pub wants_memory : (old new : Session) → old.output.spare < STEP_ROOM → is_empty (waiting_of old) ≡ false → new ≡ old → WantsMemory old new
 wants_memory old new full waits is = subst (WantsMemory old) (sym is) (record {
   same = record { state = refl; waiting = refl; input = record { held = refl; over = refl } };
   before = full;

@@ -1,24 +1,27 @@
 -- The query rule, part by part.
-use Rattle.std.proofs.Common.{◌≡◌, ◌∙◌, ℕ, false, List, [], ◌∷◌, ◌++◌, inl, inr, ◌⊎◌, Option, Some, None, Ok, Err, refl, sym, ap, subst, append-nil}
+use Rattle.std.proofs.Common.{◌≡◌, ◌∙◌, ℕ, List, [], ◌∷◌, ◌++◌, inl, inr, ◌⊎◌, Option, Some, None, Ok, Err, refl, sym, ap, subst, append-nil, append_assoc}
 use Rattle.pg_messages.specs.declared.back.Back.{Back}
-use Rattle.session_poll.specs.declared.replies.TheConstants.{EMPTY_AND_READY, NOT_BUILT, NOT_UTF8_AND_READY, OUT_OF_MEMORY_AND_READY, READY}
+use Rattle.pg_messages.specs.Back.{back_bytes}
+use Rattle.session_replies.specs.Errors as error
+use Rattle.session_poll.specs.declared.fixed.TheConstants.{EMPTY_AND_READY, NOT_BUILT, OUT_OF_MEMORY_AND_READY, READY}
 use Rattle.session_poll.specs.declared.opening.Opening.{Opening}
-use Rattle.session_poll.specs.declared.refusal.Refusal.{Refusal}
-use Rattle.session_poll.specs.declared.refusal.Refusal.TheVariants as refusal
+use Rattle.session_replies.specs.declared.refusal.Refusal.{Refusal}
+use Rattle.session_replies.specs.declared.refusal.Refusal.TheVariants as refusal
 use Rattle.session_poll.specs.declared.session.Session.{Session}
 use Rattle.session_poll.specs.declared.state.Phase.TheVariants as phases
 use Rattle.session_poll.specs.Courses.{Course, Follows, Then, goes, both}
 use Rattle.session_poll.specs.Parts.{Keeps, KeepsState, IsReady, IsEnded, IsTaken, Done, Takes, Told, ToldEnd, Failed, Stopped, ready}
 use Rattle.session_poll.specs.Queries.{AnswersQuery, AnswersStatements, Completes, GoesOn, IsTextRead, Queries, Readies, RunsAs, RunsStatement, RunsOut, EndsQuery, query_of}
-use Rattle.session_poll.specs.Replies.{spelled, error_of, empty_query, out_of_memory, ready_for_query}
+use Rattle.session_replies.specs.Replies.{spelled, error_of, empty_query, out_of_memory}
+use Rattle.session_poll.specs.Readiness.{ready_for_query}
 use Rattle.session_poll.specs.Runs.{HasSnapshot}
 use Rattle.session_poll.specs.Session.{state_of, waiting_of}
-use Rattle.session_poll.specs.Errors.{Closes, Rejects, Runs, is_fixed}
+use Rattle.session_poll.specs.Errors.{Closes, Rejects, Runs}
 use Rattle.session_poll.specs.State.{State, in_phase, ended}
 use Rattle.vra_syntax.specs.declared.query.Query.{Query}
 use Rattle.vra_syntax.specs.declared.statement.Statement.{Statement}
 use Rattle.session_poll.proofs.CourseLaws.{put_behind, put_bytes, fit_append, keeps_on, log_closed, log_kept}
-use Rattle.session_poll.proofs.FixedLaws.{empty_and_ready_is, not_built_is, not_utf8_and_ready_is, out_of_memory_and_ready_is, ready_is}
+use Rattle.session_poll.proofs.FixedLaws.{empty_and_ready_is, not_built_is, out_of_memory_and_ready_is, ready_is}
 
 pub then_goes : (first second : State → Course → Type 0) (old mid new : Session) (refused : Option Refusal) → Done first old None mid → Done second mid refused new → Done (Then first second) old refused new
 then_goes first second old mid new refused d e = record {
@@ -165,38 +168,18 @@ said_empty old mid new r put keeps = record {
   fits = log_closed old new (ready (state_of old)) (goes [] [] (ready (state_of old))) r.state refl refl;
 }
 
-pub told_error : (names : List (List ℕ)) (why : Refusal) (old mid new : Session) → waiting_of mid ≡ waiting_of old ++ spelled (error_of names why ∷ []) → waiting_of new ≡ waiting_of mid ++ READY.now → KeepsState old new → Told names why old new
-told_error names why old mid new m n keeps = record {
-  message = error_of names why;
-  told = inl refl;
-  put = put_bytes (waiting_of old) (waiting_of mid) (waiting_of new) READY.now (error_of names why ∷ []) (ready_for_query (ready (state_of old)) ∷ []) (ready_is (state_of old)) m n;
-  keeps = keeps;
-}
+pub told_error : (names : List (List ℕ)) (why : Refusal) (old mid new : Session) → error.Told names why (waiting_of old) (waiting_of mid) → waiting_of new ≡ waiting_of mid ++ back_bytes (ready_for_query (ready (state_of old))) → KeepsState old new → Told names why old new
+told_error names why old mid new t n keeps =
+    let last : List ℕ = back_bytes (ready_for_query (ready (state_of old))) in
+    record {
+      message = t.message;
+      told = t.tells;
+      put = n ∙ ap (λ (b : List ℕ). b ++ last) t.put ∙ append_assoc (waiting_of old) (back_bytes t.message) last ∙ ap (λ (b : List ℕ). waiting_of old ++ (back_bytes t.message ++ b)) (sym (append-nil last));
+      keeps = keeps;
+    }
 
 out_put : (s : State) (old mid new : List ℕ) → mid ≡ old → new ≡ mid ++ OUT_OF_MEMORY_AND_READY.now → new ≡ old ++ spelled (out_of_memory ∷ ready_for_query (ready s) ∷ [])
 out_put s old mid new m n = n ∙ ap (λ (b : List ℕ). b ++ OUT_OF_MEMORY_AND_READY.now) m ∙ ap (λ (b : List ℕ). old ++ b) (out_of_memory_and_ready_is s)
-
-told_fixed : (names : List (List ℕ)) (why known : Refusal) (bytes : List ℕ) (old new : Session) → why ≡ known → bytes ≡ spelled (error_of names known ∷ ready_for_query (ready (state_of old)) ∷ []) → waiting_of new ≡ waiting_of old ++ bytes → KeepsState old new → Told names why old new
-told_fixed names why known bytes old new is fixed put keeps = record {
-  message = error_of names why;
-  told = inl refl;
-  put = put ∙ ap (λ (b : List ℕ). waiting_of old ++ b) (fixed ∙ ap (λ w. spelled (error_of names w ∷ ready_for_query (ready (state_of old)) ∷ [])) (sym is));
-  keeps = keeps;
-}
-
-pub told_not_utf8 : (names : List (List ℕ)) (why : Refusal) (old new : Session) → why ≡ refusal.NotUtf8 → waiting_of new ≡ waiting_of old ++ NOT_UTF8_AND_READY.now → KeepsState old new → Told names why old new
-told_not_utf8 names why old new is put keeps = told_fixed names why refusal.NotUtf8 NOT_UTF8_AND_READY.now old new is (not_utf8_and_ready_is names (state_of old)) put keeps
-
-pub told_out_of_memory : (names : List (List ℕ)) (why : Refusal) (old new : Session) → why ≡ refusal.OutOfMemory → waiting_of new ≡ waiting_of old ++ OUT_OF_MEMORY_AND_READY.now → KeepsState old new → Told names why old new
-told_out_of_memory names why old new is put keeps = told_fixed names why refusal.OutOfMemory OUT_OF_MEMORY_AND_READY.now old new is (out_of_memory_and_ready_is (state_of old)) put keeps
-
-pub told_memory : (names : List (List ℕ)) (why : Refusal) (old mid new : Session) → is_fixed why ≡ false → waiting_of mid ≡ waiting_of old → waiting_of new ≡ waiting_of mid ++ OUT_OF_MEMORY_AND_READY.now → KeepsState old new → Told names why old new
-told_memory names why old mid new takes m n keeps = record {
-  message = out_of_memory;
-  told = inr (takes, refl);
-  put = out_put (state_of old) (waiting_of old) (waiting_of mid) (waiting_of new) m n;
-  keeps = keeps;
-}
 
 pub failed : (names : List (List ℕ)) (why : Refusal) (old mid new : Session) → Told names why old mid → IsReady mid new → Failed names why old new
 failed names why old mid new t r = record {

@@ -5,7 +5,7 @@ use Rattle.session_poll.specs.declared.session.Session.{Session}
 use Rattle.session_poll.specs.Courses.{Event}
 use Rattle.session_poll.specs.Packets.{IsReadAs}
 use Rattle.session_poll.specs.Parts.{Same, Moved}
-use Rattle.session_poll.specs.Replies.{spelled}
+use Rattle.session_replies.specs.Replies.{spelled}
 use Rattle.session_poll.specs.Runs.{Did, IsRunFrom, end_from, bytes_read, replied, events_of, AllFit, HasSnapshot, IsAt}
 use Rattle.session_poll.specs.Session.{held_of, waiting_of}
 use Rattle.session_poll.specs.State.{State, opening_state}

@@ -1,13 +1,13 @@
 -- The start-up rule.
 use Rattle.std.proofs.Common.{◌≡◌, ◌∙◌, ℕ, Bool, true, false, MatchBool, List, [], ◌∷◌, ◌++◌, inl, inr, refl, sym, ap, true≢false}
 use Rattle.pg_messages.specs.declared.startup.Startup.{Startup}
-use Rattle.session_poll.specs.declared.replies.TheConstants.{OUT_OF_MEMORY}
+use Rattle.session_poll.specs.declared.fixed.TheConstants.{OUT_OF_MEMORY}
 use Rattle.session_poll.specs.declared.opening.Opening.{Opening}
 use Rattle.session_poll.specs.declared.session.Session.{Session}
 use Rattle.session_poll.specs.declared.state.Phase.TheVariants as phases
 use Rattle.session_poll.specs.Courses.{goes}
 use Rattle.session_poll.specs.Parts.{KeepsState, Keeps, Takes}
-use Rattle.session_poll.specs.Replies.{spelled, out_of_memory}
+use Rattle.session_replies.specs.Replies.{spelled, out_of_memory}
 use Rattle.session_poll.specs.Session.{state_of, waiting_of}
 use Rattle.session_poll.specs.Errors.{Rejects}
 use Rattle.session_poll.specs.StartUps.{is_taken, welcome, Welcomes, StartsUp}

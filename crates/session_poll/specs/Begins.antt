@@ -1,8 +1,8 @@
 -- The transaction rule: where no transaction is open, one begins, and its snapshot is told. What is read of the open one.
 use Rattle.std.specs.Prelude.{◌≡◌, ℕ, List, [], ◌∷◌, ◌⊎◌}
-use Rattle.session_poll.specs.declared.refusal.Refusal.TheVariants as refusal
+use Rattle.session_replies.specs.declared.refusal.Refusal.TheVariants as refusal
 use Rattle.session_poll.specs.Courses.{Course, Event, Begun, Viewed, goes, stops}
-use Rattle.session_poll.specs.Replies.{snapshot_told}
+use Rattle.session_replies.specs.Replies.{snapshot_told}
 use Rattle.session_poll.specs.State.{State, Transaction, Idle, Implicit, in_transaction}
 
 -- a transaction begins over a snapshot

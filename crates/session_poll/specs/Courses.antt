@@ -3,8 +3,8 @@ use Rattle.std.specs.Prelude.{◌≡◌, ℕ, List, [], ◌++◌, Option, Some, 
 use Rattle.pg_messages.specs.declared.back.Back.{Back}
 use Rattle.pg_messages.specs.declared.front.Front.{Front}
 use Rattle.pg_messages.specs.declared.startup.Startup.{Startup}
-use Rattle.session_poll.specs.declared.refusal.Refusal.{Refusal}
-use Rattle.session_poll.specs.declared.refusal.Refusal.TheVariants as refusal
+use Rattle.session_replies.specs.declared.refusal.Refusal.{Refusal}
+use Rattle.session_replies.specs.declared.refusal.Refusal.TheVariants as refusal
 use Rattle.session_poll.specs.State.{State}
 
 -- what a step begins with: a packet, a bad one, one that is all there and for which no memory was found, or the next

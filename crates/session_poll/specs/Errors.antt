@@ -1,22 +1,14 @@
 -- The error rule in a Query.
-use Rattle.std.specs.Prelude.{◌≡◌, ℕ, List, Bool, true, false, [], ◌∷◌, ◌++◌, Option, Some, None, ◌⊎◌}
+use Rattle.std.specs.Prelude.{◌≡◌, ℕ, List, [], ◌∷◌, ◌++◌, Option, Some, None}
 use Rattle.pg_messages.specs.declared.back.Back.{Back}
+use Rattle.session_replies.specs.Errors.{Tells}
 use Rattle.session_poll.specs.Courses.{Course, goes}
-use Rattle.session_poll.specs.Replies.{error_of, out_of_memory, ready_for_query}
+use Rattle.session_replies.specs.Replies.{error_of}
+use Rattle.session_poll.specs.Readiness.{ready_for_query}
 use Rattle.session_poll.specs.State.{State, in_phase, after_error, ended}
-use Rattle.session_poll.specs.declared.refusal.Refusal.{Refusal}
-use Rattle.session_poll.specs.declared.refusal.Refusal.TheVariants as refusal
+use Rattle.session_replies.specs.declared.refusal.Refusal.{Refusal}
+use Rattle.session_replies.specs.declared.refusal.Refusal.TheVariants as refusal
 use Rattle.session_poll.specs.declared.state.Phase.TheVariants as phases
-
--- whether the error of a refusal is a reply of fixed bytes, which takes no memory
-abbrev pub is_fixed : Refusal → Bool
-is_fixed refusal.NotUtf8 = true
-is_fixed refusal.OutOfMemory = true
-is_fixed _ = false
-
--- the error of a refusal, where the features have these names; where it takes memory, that of want of memory may be told in its place
-abbrev pub Tells : List (List ℕ) → Refusal → Back → Type 0
-Tells names why message = (message ≡ error_of names why) ⊎ ((is_fixed why ≡ false) × (message ≡ out_of_memory))
 
 -- The error is told, the transaction is dropped, and a message may come. The statements that are left aren't run.
 abbrev pub failed : Course → Back → Course

@@ -1,14 +1,16 @@
 -- What the parts of a step leave of a session.
-use Rattle.std.specs.Prelude.{◌≡◌, ℕ, ◌≤◌, Bool, true, false, List, [], ◌∷◌, ◌++◌, ◌⊎◌, take, drop, length, Option, Some, None}
+use Rattle.std.specs.Prelude.{◌<◌, ◌≡◌, ℕ, ◌≤◌, Bool, true, false, List, [], ◌∷◌, ◌++◌, ◌⊎◌, take, drop, length, Option, Some, None}
 use Rattle.pg_messages.specs.declared.back.Back.{Back}
+use Rattle.session_replies.specs.declared.output.TheConstants.{KEPT_ROOM, STEP_ROOM}
 use Rattle.session_poll.specs.declared.opening.Opening.{Opening}
-use Rattle.session_poll.specs.declared.refusal.Refusal.{Refusal}
+use Rattle.session_replies.specs.declared.refusal.Refusal.{Refusal}
 use Rattle.session_poll.specs.declared.session.Session.{Session}
 use Rattle.session_poll.specs.declared.state.Phase.TheVariants as phases
 use Rattle.session_poll.specs.Courses.{Course}
 use Rattle.session_poll.specs.Packets.{IsStartupMessage, IsQuery, IsReadAs}
-use Rattle.session_poll.specs.Errors.{Tells}
-use Rattle.session_poll.specs.Replies.{spelled, out_of_memory, ready_for_query}
+use Rattle.session_replies.specs.Errors.{Tells}
+use Rattle.session_replies.specs.Replies.{spelled, out_of_memory}
+use Rattle.session_poll.specs.Readiness.{ready_for_query}
 use Rattle.session_poll.specs.Runs.{AllFit, Did, HasSnapshot}
 use Rattle.session_poll.specs.Session.{state_of, held_of, owed_of, is_over}
 use Rattle.session_poll.specs.Standing.{works, IsFull}
@@ -86,7 +88,7 @@ pub record Done (part : State → Course → Type 0) (old : Session) (refused : 
   pub put : owed_of new ≡ owed_of old ++ spelled course.replies
   pub keeps : Keeps old new
   pub fits : KeepsLog 0 old course new
-  pub room : new.output.is_ready ≡ true
+  pub room : KEPT_ROOM ≤ new.output.spare
 
 -- a whole rule was followed, with this course
 pub record Takes (rule : State → Course → Type 0) (old new : Session) : Type 0 where
@@ -120,7 +122,7 @@ pub record ToldEnd (complete : Back) (old new : Session) : Type 0 where
 -- no room was there for a reply of fixed bytes, no memory was found for it, and nothing was done
 pub record WantsMemory (old new : Session) : Type 0 where
   pub same : Same old new
-  pub before : old.output.is_ready ≡ false
+  pub before : old.output.spare < STEP_ROOM
   pub full : IsFull new
 
 -- a step of the session machine was taken, since work waited

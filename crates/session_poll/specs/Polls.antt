@@ -1,5 +1,6 @@
 -- What a poll does: none or one step of the session machine.
 use Rattle.std.specs.Prelude.{◌≡◌, ℕ, ◌≤◌, Bool, true, false, List, [], ◌∷◌, ◌++◌, length}
+use Rattle.session_replies.specs.declared.output.TheConstants.{STEP_ROOM}
 use Rattle.session_poll.specs.declared.opening.Opening.{Opening}
 use Rattle.session_poll.specs.declared.polled.Polled.{Polled}
 use Rattle.session_poll.specs.declared.polled.Polled.TheVariants as polled
@@ -19,6 +20,6 @@ pub record Polls (opening : Opening) (old : Session) (result : Polled) (new : Se
   pub one : length did ≤ 1
   pub on : (fed taken : List ℕ) (run : List Did) → IsAt opening fed taken run old → IsAt opening fed taken (run ++ did) new
   pub says : Says (has_moved did) result new
-  pub looks : old.output.is_ready ≡ true → (has_moved did ≡ works old.phase (held_of old)) × (result ≡ standing_of new)
+  pub looks : STEP_ROOM ≤ old.output.spare → (has_moved did ≡ works old.phase (held_of old)) × (result ≡ standing_of new)
   pub busy : result ≡ polled.Again → length did ≡ 1
   pub over : is_over new ≡ is_over old

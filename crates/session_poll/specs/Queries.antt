@@ -6,16 +6,17 @@ use Rattle.query_meaning.specs.declared.ill.TypeRefused.{TypeRefused}
 use Rattle.query_meaning.specs.declared.typed.TypedColumn.{TypedColumn}
 use Rattle.query_parser.specs.Texts.{IsText, IsRefusedText}
 use Rattle.session_poll.specs.declared.opening.Opening.{Opening}
-use Rattle.session_poll.specs.declared.refusal.Refusal.{Refusal}
-use Rattle.session_poll.specs.declared.refusal.Refusal.TheVariants as refusal
+use Rattle.session_replies.specs.declared.refusal.Refusal.{Refusal}
+use Rattle.session_replies.specs.declared.refusal.Refusal.TheVariants as refusal
 use Rattle.session_poll.specs.declared.state.Phase.{Phase}
 use Rattle.session_poll.specs.declared.state.Phase.TheVariants as phases
 use Rattle.session_poll.specs.Answers.{IsAnswer}
-use Rattle.session_poll.specs.AnswerMessages.{answer_messages, answer_too_long, select_complete}
+use Rattle.session_replies.specs.AnswerMessages.{answer_messages, answer_too_long, select_complete}
 use Rattle.session_poll.specs.Begins.{Begins, Sees}
 use Rattle.session_poll.specs.Courses.{Course, Then, Checked, Does, OrMemory, goes, stops}
 use Rattle.session_poll.specs.Errors.{Fails, Rejects, Runs, failed}
-use Rattle.session_poll.specs.Replies.{empty_query, out_of_memory, ready_for_query}
+use Rattle.session_replies.specs.Replies.{empty_query, out_of_memory}
+use Rattle.session_poll.specs.Readiness.{ready_for_query}
 use Rattle.session_poll.specs.State.{State, between, in_phase}
 use Rattle.session_poll.specs.Typings.{Types}
 use Rattle.vra_syntax.specs.declared.query.Query.{Query}

@@ -4,7 +4,7 @@ use Rattle.session_poll.specs.declared.opening.Opening.{Opening}
 use Rattle.session_poll.specs.declared.session.Session.{Session}
 use Rattle.session_poll.specs.Courses.{Course, Event, Begun, Viewed, Input}
 use Rattle.session_poll.specs.Packets.{IsReadAs}
-use Rattle.session_poll.specs.Replies.{spelled}
+use Rattle.session_replies.specs.Replies.{spelled}
 use Rattle.session_poll.specs.Session.{state_of, held_of, owed_of}
 use Rattle.session_poll.specs.State.{State, Transaction, Idle, Implicit, opening_state}
 use Rattle.session_poll.specs.Steps.{Step}

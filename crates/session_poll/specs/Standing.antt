@@ -1,14 +1,15 @@
 -- How a session stands between two polls.
-use Rattle.std.specs.Prelude.{◌≡◌, ℕ, Bool, true, false, not, ◌&&◌, ◌||◌, List, ◌⊎◌}
+use Rattle.std.specs.Prelude.{◌<◌, ◌≡◌, ℕ, Bool, true, false, not, ◌&&◌, ◌||◌, List, ◌⊎◌}
 use Rattle.pg_messages.specs.Front.{front_of}
 use Rattle.pg_messages.specs.Packet.{is_more}
 use Rattle.pg_messages.specs.Startup.{startup_of}
+use Rattle.session_replies.specs.declared.output.TheConstants.{STEP_ROOM}
 use Rattle.session_poll.specs.declared.polled.Polled.{Polled}
 use Rattle.session_poll.specs.declared.polled.Polled.TheVariants as polled
 use Rattle.session_poll.specs.declared.session.Session.{Session}
 use Rattle.session_poll.specs.declared.state.Phase.{Phase}
 use Rattle.session_poll.specs.declared.state.Phase.TheVariants as phases
-use Rattle.session_poll.specs.Output.{is_empty}
+use Rattle.session_replies.specs.Output.{is_empty}
 use Rattle.session_poll.specs.Session.{state_of, held_of, owed_of, waiting_of, is_over}
 
 -- whether work waits: a whole packet or a bad one, or a Query that isn't finished
@@ -37,7 +38,7 @@ standing_of session =
 
 -- behind what waits there is no room for a reply of fixed bytes
 abbrev pub IsFull : Session → Type 0
-IsFull session = (session.output.is_ready ≡ false) × (is_empty (waiting_of session) ≡ false)
+IsFull session = (session.output.spare < STEP_ROOM) × (is_empty (waiting_of session) ≡ false)
 
 -- A poll says how the session stands, or, where it did nothing, that output has to be taken: it found no memory for a
 -- reply of fixed bytes behind what waits.

@@ -13,7 +13,7 @@ use Rattle.session_poll.specs.declared.opening.Opening.{Opening}
 use Rattle.session_poll.specs.declared.state.Phase.TheVariants as phases
 use Rattle.session_poll.specs.Courses.{Course, goes}
 use Rattle.session_poll.specs.Errors.{Rejects}
-use Rattle.session_poll.specs.Replies.{out_of_memory}
+use Rattle.session_replies.specs.Replies.{out_of_memory}
 use Rattle.session_poll.specs.State.{State, in_phase, status_of}
 
 abbrev pub later_or : Option (List ℕ) → Option (List ℕ) → Option (List ℕ)

@@ -8,7 +8,7 @@ use Rattle.session_poll.specs.declared.state.Phase.TheVariants as phases
 use Rattle.session_poll.specs.Courses.{Course, Input, StartUp, Message, Bad, Unread, Next, goes}
 use Rattle.session_poll.specs.Queries.{Queries, RunsStatement, EndsQuery, RunsOut}
 use Rattle.session_poll.specs.Errors.{Rejects}
-use Rattle.session_poll.specs.Replies.{out_of_memory}
+use Rattle.session_replies.specs.Replies.{out_of_memory}
 use Rattle.session_poll.specs.StartUps.{StartsUp}
 use Rattle.session_poll.specs.State.{State, in_phase, ended}
 

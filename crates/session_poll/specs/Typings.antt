@@ -5,8 +5,8 @@ use Rattle.query_meaning.specs.declared.ill.TypeRefused.{TypeRefused}
 use Rattle.query_meaning.specs.declared.ill.TypeRefused.TheVariants as refused
 use Rattle.query_meaning.specs.declared.plan.Plan.{Plan}
 use Rattle.query_meaning.specs.declared.typed.TypedColumn.{TypedColumn}
-use Rattle.session_poll.specs.declared.refusal.Refusal.{Refusal}
-use Rattle.session_poll.specs.declared.refusal.Refusal.TheVariants as refusal
+use Rattle.session_replies.specs.declared.refusal.Refusal.{Refusal}
+use Rattle.session_replies.specs.declared.refusal.Refusal.TheVariants as refusal
 use Rattle.vra_syntax.specs.declared.query.Query.{Query}
 use Rattle.vschema.specs.declared.catalog.Catalog.{Catalog}
 

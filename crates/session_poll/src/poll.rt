@@ -1,11 +1,12 @@
 //! A poll: none or one step of the session machine.
 
-ghost use Rattle.std.specs.Prelude.{◌≡◌, ◌≤◌, ◌++◌, true, false, not, length, take, drop, is_some, min, IfOk, IfSome, OnErr};
+ghost use Rattle.std.specs.Prelude.{◌≡◌, ◌≤◌, true, false, length, take, is_some, IfOk, OnErr};
 ghost use Rattle.pg_messages.specs.Front.{front_head, front_of};
 ghost use Rattle.pg_messages.specs.Front.{IsFront};
 ghost use Rattle.pg_messages.specs.Packet.{Answers, IfWhole, IfMemory, length_of};
 ghost use Rattle.pg_messages.specs.Startup.{startup_head, startup_of};
 ghost use Rattle.pg_messages.specs.Startup.{IsStartup};
+ghost use Rattle.session_replies.specs.declared.output.TheConstants.{KEPT_ROOM, STEP_ROOM};
 ghost use Rattle.session_poll.specs.declared.state.Phase.TheVariants as phases;
 ghost use Rattle.session_poll.specs.Parts.{BeginsStartup, BeginsQuery, Drops, Skips, Moves, Takes, WantsMemory};
 ghost use Rattle.session_poll.specs.Polls.{Polls};
@@ -51,7 +52,7 @@ impl Session {
     /// Takes a step if there is one to take.
     #[tactic(auto, using(crate::proofs::MoveLaws::gone_on, crate::proofs::MoveLaws::query_ended, crate::proofs::MoveLaws::idle_ended))]
     fn step(&mut self, opening: &Opening) -> bool
-        requires ready { self.old.output.is_ready ≡ true }
+        requires ready { STEP_ROOM ≤ self.old.output.spare }
         requires servable { IsServable opening.now }
         ensures { Moves opening.now self.old result self.new }
     {
@@ -72,7 +73,7 @@ impl Session {
 
     #[tactic(auto, using(crate::proofs::MoveLaws::started, crate::proofs::MoveLaws::start_bad, crate::proofs::MoveLaws::start_unread, crate::proofs::MoveLaws::start_idle))]
     fn take_startup(&mut self, opening: &Opening) -> bool
-        requires ready { self.old.output.is_ready ≡ true }
+        requires ready { KEPT_ROOM ≤ self.old.output.spare }
         requires servable { IsServable opening.now }
         requires phase { self.old.phase ≡ phases.Start }
         ensures { Moves opening.now self.old result self.new }
@@ -99,7 +100,7 @@ impl Session {
 
     #[tactic(auto, using(crate::proofs::MoveLaws::handled, crate::proofs::MoveLaws::message_bad, crate::proofs::MoveLaws::message_unread, crate::proofs::MoveLaws::message_idle))]
     fn take_message(&mut self, opening: &Opening) -> bool
-        requires ready { self.old.output.is_ready ≡ true }
+        requires ready { KEPT_ROOM ≤ self.old.output.spare }
         requires servable { IsServable opening.now }
         requires phase { self.old.phase ≡ phases.Ready }
         ensures { Moves opening.now self.old result self.new }
@@ -125,7 +126,7 @@ impl Session {
     }
 
     fn handle(&mut self, message: &Front, opening: &Opening)
-        requires ready { self.old.output.is_ready ≡ true }
+        requires ready { KEPT_ROOM ≤ self.old.output.spare }
         requires servable { IsServable opening.now }
         ensures { Takes (Handles opening.now message.now) self.old self.new }
     {

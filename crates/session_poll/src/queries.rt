@@ -1,24 +1,24 @@
 //! The query rule.
 
-ghost use Rattle.std.specs.Prelude.{◌≡◌, ◌++◌, [], ◌∷◌, true, false, None, List as Items, OnOk, OnErr, MatchOption};
+ghost use Rattle.std.specs.Prelude.{◌≤◌, ◌≡◌, ◌++◌, [], ◌∷◌, false, None, List as Items, OnOk, OnErr, MatchOption};
 ghost use Rattle.pg_messages.specs.declared.back.Back.{Back};
-ghost use Rattle.session_poll.specs.Errors.{is_fixed, Rejects, Runs};
+ghost use Rattle.session_replies.specs.declared.output.TheConstants.{KEPT_ROOM, STEP_ROOM};
+ghost use Rattle.session_poll.specs.Errors.{Rejects, Runs};
 ghost use Rattle.session_poll.specs.Parts.{Done, Takes, Told, ToldEnd, Failed, KeepsState, IsReady, IsEnded, IsTaken};
 ghost use Rattle.session_poll.specs.Queries.{AnswersQuery, AnswersStatements, Completes, Queries, Readies, RunsStatement, RunsOut, EndsQuery, IsTextRead, query_of};
-ghost use Rattle.session_poll.specs.Replies.{spelled, error_of, empty_query};
+ghost use Rattle.session_replies.specs.Replies.{spelled, empty_query};
 ghost use Rattle.session_poll.specs.Servable.{IsServable};
 ghost use Rattle.session_poll.specs.State.{in_phase};
 ghost use Rattle.session_poll.specs.declared.state.Phase.TheVariants as phases;
 
+use crate::fixed::{EMPTY_AND_READY, NOT_BUILT, OUT_OF_MEMORY_AND_READY, READY};
 use crate::opening::Opening;
-use crate::refusal::Refusal;
-use crate::replies::{
-    EMPTY_AND_READY, NOT_BUILT, NOT_UTF8_AND_READY, OUT_OF_MEMORY_AND_READY, READY, error,
-};
 use crate::session::Session;
 use crate::state::{Phase, Transaction};
 use feature_expr::{Features, List, Memory, Text};
+use pg_messages::Status;
 use query_parser::parse;
+use session_replies::Refusal;
 use std::alloc::Global;
 use std::collections::VecDeque;
 use std::marker::Model;
@@ -29,7 +29,7 @@ impl Session {
     /// Reads the text of a Query, whose statements are left to be run.
     #[tactic(auto, using(crate::proofs::QueryLaws::query_read, crate::proofs::QueryLaws::query_refused))]
     pub(crate) fn query(&mut self, text: &Text, features: &Features)
-        requires { self.old.output.is_ready ≡ true }
+        requires { KEPT_ROOM ≤ self.old.output.spare }
         ensures { Takes (Queries features.now text.now) self.old self.new }
     {
         match read(self.alloc, text.as_slice(), features) {
@@ -41,7 +41,7 @@ impl Session {
     /// Leaves these statements to be run. Where there is none, that is told.
     #[tactic(auto, using(crate::proofs::QueryLaws::leaves, crate::proofs::QueryLaws::leaves_none))]
     fn leave(&mut self, statements: List<Statement>)
-        requires { self.old.output.is_ready ≡ true }
+        requires { KEPT_ROOM ≤ self.old.output.spare }
         ensures { Takes (AnswersStatements statements) self.old self.new }
     {
         let mut left = Left::new(statements);
@@ -54,7 +54,7 @@ impl Session {
     /// Goes on with the next statement of a Query.
     #[tactic(auto, using(crate::proofs::QueryLaws::goes_on))]
     pub(crate) fn go_on(&mut self, opening: &Opening)
-        requires ready { self.old.output.is_ready ≡ true }
+        requires ready { STEP_ROOM ≤ self.old.output.spare }
         requires servable { IsServable opening.now }
         ensures { (first : Statement) (left : Items Statement) → self.old.phase ≡ phases.Statements first left → Takes (λ old c. RunsStatement opening.now first left (in_phase phases.Ready old) c) self.old self.new }
     {
@@ -73,7 +73,7 @@ impl Session {
     /// Runs a statement behind which these are left.
     #[tactic(auto, using(crate::proofs::QueryLaws::runs_query, crate::proofs::QueryLaws::runs_other))]
     fn run_statement(&mut self, statement: Statement, left: Left, opening: &Opening)
-        requires ready { self.old.output.is_ready ≡ true }
+        requires ready { STEP_ROOM ≤ self.old.output.spare }
         requires servable { IsServable opening.now }
         ensures { Takes (RunsStatement opening.now statement left) self.old self.new }
     {
@@ -85,7 +85,7 @@ impl Session {
 
     #[tactic(auto, using(crate::proofs::QueryLaws::runs_through, crate::proofs::QueryLaws::runs_failed))]
     fn run(&mut self, query: &Query, left: Left, opening: &Opening)
-        requires ready { self.old.output.is_ready ≡ true }
+        requires ready { STEP_ROOM ≤ self.old.output.spare }
         requires servable { IsServable opening.now }
         ensures { Takes (Runs opening.now.catalog.features (Completes (AnswersQuery opening.now query.now) left)) self.old self.new }
     {
@@ -96,7 +96,7 @@ impl Session {
 
     #[tactic(auto, using(crate::proofs::QueryLaws::completes, crate::proofs::QueryLaws::completes_not))]
     fn answer_and_go_on(&mut self, query: &Query, left: Left, opening: &Opening) -> Option<Refusal>
-        requires ready { self.old.output.is_ready ≡ true }
+        requires ready { STEP_ROOM ≤ self.old.output.spare }
         requires servable { IsServable opening.now }
         ensures { Done (Completes (AnswersQuery opening.now query.now) left) self.old result self.new }
     {
@@ -109,7 +109,7 @@ impl Session {
     /// Says that a text has no statement.
     #[tactic(auto, using(crate::proofs::QueryLaws::said_empty))]
     fn say_empty(&mut self)
-        requires { self.old.output.is_ready ≡ true }
+        requires { KEPT_ROOM ≤ self.old.output.spare }
         ensures { Takes (Readies (empty_query ∷ [])) self.old self.new }
     {
         self.output.put_fixed(EMPTY_AND_READY);
@@ -120,53 +120,26 @@ impl Session {
     /// are left aren't run.
     #[tactic(auto, using(crate::proofs::QueryLaws::failed))]
     fn fail(&mut self, why: &Refusal, features: &Features)
-        requires { self.old.output.is_ready ≡ true }
+        requires { KEPT_ROOM ≤ self.old.output.spare }
         ensures { Failed features.now why.now self.old self.new }
     {
         self.tell_error(why, features);
         self.be_ready();
     }
 
-    #[tactic(auto, using(crate::proofs::QueryLaws::told_not_utf8, crate::proofs::QueryLaws::told_out_of_memory))]
+    #[tactic(auto, using(crate::proofs::QueryLaws::told_error))]
     fn tell_error(&mut self, why: &Refusal, features: &Features)
-        requires { self.old.output.is_ready ≡ true }
+        requires { KEPT_ROOM ≤ self.old.output.spare }
         ensures { Told features.now why.now self.old self.new }
     {
-        match why {
-            Refusal::NotUtf8 => self.output.put_fixed(NOT_UTF8_AND_READY),
-            Refusal::OutOfMemory => self.output.put_fixed(OUT_OF_MEMORY_AND_READY),
-            _ => self.tell_in_memory(why, features),
-        }
-    }
-
-    /// Tells an error, which takes memory, or want of memory in its place.
-    #[tactic(auto, using(crate::proofs::QueryLaws::told_error, crate::proofs::QueryLaws::told_memory))]
-    fn tell_in_memory(&mut self, why: &Refusal, features: &Features)
-        requires ready { self.old.output.is_ready ≡ true }
-        requires takes { is_fixed why.now ≡ false }
-        ensures { Told features.now why.now self.old self.new }
-    {
-        match self.put_error(why, features) {
-            Ok(()) => self.output.put_fixed(READY),
-            Err(Memory) => self.output.put_fixed(OUT_OF_MEMORY_AND_READY),
-        }
-    }
-
-    fn put_error(&mut self, why: &Refusal, features: &Features) -> Result<(), Memory>
-        requires { self.old.output.is_ready ≡ true }
-        ensures ok { OnOk result (self.new.output.bytes ≡ self.old.output.bytes ++ spelled (error_of features.now why.now ∷ [])) }
-        ensures err { OnErr result (self.new.output.bytes ≡ self.old.output.bytes) }
-        ensures ready { self.new.output.is_ready ≡ true }
-        ensures state { KeepsState self.old self.new }
-    {
-        let message = error(self.alloc, why, features)?;
-        self.output.put(&message)
+        self.output.refuse(self.alloc, why, features);
+        self.output.ready(Status::Idle);
     }
 
     /// Want of memory stands for the message that took it: the transaction is dropped, and the Query ends.
     #[tactic(auto, using(crate::proofs::QueryLaws::ran_out))]
     pub(crate) fn run_out(&mut self)
-        requires { self.old.output.is_ready ≡ true }
+        requires { KEPT_ROOM ≤ self.old.output.spare }
         ensures { Takes RunsOut self.old self.new }
     {
         self.output.put_fixed(OUT_OF_MEMORY_AND_READY);
@@ -176,7 +149,7 @@ impl Session {
     /// Refuses what isn't built yet, and ends.
     #[tactic(auto, using(crate::proofs::QueryLaws::rejected))]
     pub(crate) fn reject(&mut self)
-        requires { self.old.output.is_ready ≡ true }
+        requires { KEPT_ROOM ≤ self.old.output.spare }
         ensures { Takes Rejects self.old self.new }
     {
         self.output.put_fixed(NOT_BUILT);
@@ -186,7 +159,7 @@ impl Session {
     /// The end of a Query whose last statement was answered: its transaction ends, and its tag is sent.
     #[tactic(auto, using(crate::proofs::QueryLaws::ends_query))]
     pub(crate) fn end_query(&mut self)
-        requires { self.old.output.is_ready ≡ true }
+        requires { KEPT_ROOM ≤ self.old.output.spare }
         ensures { (complete : Back) → self.old.phase ≡ phases.Query complete → Takes (EndsQuery complete) self.old self.new }
     {
         self.tell_end();
@@ -195,7 +168,7 @@ impl Session {
 
     #[tactic(auto, using(crate::proofs::QueryLaws::told_complete, crate::proofs::QueryLaws::told_no_complete))]
     fn tell_end(&mut self)
-        requires { self.old.output.is_ready ≡ true }
+        requires { KEPT_ROOM ≤ self.old.output.spare }
         ensures { (complete : Back) → self.old.phase ≡ phases.Query complete → ToldEnd complete self.old self.new }
     {
         match self.put_complete() {
@@ -205,10 +178,10 @@ impl Session {
     }
 
     fn put_complete(&mut self) -> Result<(), Memory>
-        requires { self.old.output.is_ready ≡ true }
+        requires { KEPT_ROOM ≤ self.old.output.spare }
         ensures ok { (complete : Back) → self.old.phase ≡ phases.Query complete → OnOk result (self.new.output.bytes ≡ self.old.output.bytes ++ spelled (complete ∷ [])) }
         ensures err { OnErr result (self.new.output.bytes ≡ self.old.output.bytes) }
-        ensures ready { self.new.output.is_ready ≡ true }
+        ensures ready { KEPT_ROOM ≤ self.new.output.spare }
         ensures state { KeepsState self.old self.new }
     {
         match &self.phase {

@@ -3,9 +3,9 @@ ghost use Rattle.session_poll.specs.declared.inbox.TheConstants.{INBOX_SIZE};
 
 use crate::inbox::Inbox;
 use crate::opening::Opening;
-use crate::output::Output;
 use crate::state::{Phase, Transaction};
 use feature_expr::Memory;
+use session_replies::Output;
 use std::alloc::Global;
 
 /// A client's session.

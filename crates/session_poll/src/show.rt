@@ -1,21 +1,20 @@
 //! A query of a Query: it is typed, and answered in every variant at once.
 
-ghost use Rattle.std.specs.Prelude.{◌≡◌, ◌<◌, ◌++◌, ◌∷◌, [], true, None, IfOk, IfErr, OnOk, OnErr};
+ghost use Rattle.std.specs.Prelude.{◌≤◌, ◌≡◌, ◌<◌, ◌++◌, ◌∷◌, [], None, IfOk, IfErr, OnOk, OnErr};
 ghost use Rattle.query_meaning.specs.Typing.{Refuses};
+ghost use Rattle.session_replies.specs.declared.output.TheConstants.{KEPT_ROOM, STEP_ROOM};
 ghost use Rattle.session_poll.specs.Answers.{IsAnswer};
-ghost use Rattle.session_poll.specs.AnswerMessages.{answer_messages, answer_too_long};
+ghost use Rattle.session_replies.specs.AnswerMessages.{answer_messages, answer_too_long};
 ghost use Rattle.session_poll.specs.Parts.{Done, KeepsState, Stopped};
 ghost use Rattle.session_poll.specs.Queries.{AnswersQuery, GoesOn, TypesOrMemory};
-ghost use Rattle.session_poll.specs.Replies.{spelled};
-ghost use Rattle.session_poll.specs.Sends.{Sends};
+ghost use Rattle.session_replies.specs.Replies.{spelled};
+ghost use Rattle.session_replies.specs.Sends.{Sends};
 ghost use Rattle.session_poll.specs.Servable.{IsServable};
 ghost use Rattle.session_poll.specs.Typings.{HasType, IsUnanswered, refusal_for};
 ghost use Rattle.query_answers.specs.Answering.{CanAnswer, IsAnswerFrom};
 
-use crate::answer::{put_answer, select_complete};
 use crate::opening::Opening;
 use crate::queries::Left;
-use crate::refusal::Refusal;
 use crate::session::Session;
 use crate::state::Phase;
 use asked_conditions::Questions;
@@ -25,6 +24,7 @@ use query_answers::answer_query;
 use query_meaning::{TypeRefused, TypedColumn};
 use query_names::{TableNames, Typed};
 use query_typing::type_query;
+use session_replies::{Refusal, put_answer, select_complete};
 use std::alloc::Global;
 use std::marker::Brand;
 use std::sync::ledger::{Blank, Ledger};
@@ -34,22 +34,19 @@ use vtable::{OutTable, VTable};
 
 impl Session {
     /// Answers a query in a transaction, and gives the message that is to follow.
-    #[tactic(auto, using(crate::proofs::ShowLaws::answers, crate::proofs::ShowLaws::answers_not, crate::proofs::ShowLaws::begins_not))]
     pub(crate) fn answer(&mut self, query: &Query, opening: &Opening) -> Result<Back, Refusal>
-        requires ready { self.old.output.is_ready ≡ true }
+        requires ready { STEP_ROOM ≤ self.old.output.spare }
         requires servable { IsServable opening.now }
         ensures ok { IfOk result (λ message. Done (AnswersQuery opening.now query.now message) self.old None self.new) }
         ensures err { IfErr result (λ why. Stopped (AnswersQuery opening.now query.now) self.old why self.new) }
     {
-        match self.begin() {
-            Some(why) => Err(why),
-            None => self.type_and_run(query, opening),
-        }
+        self.begin();
+        self.type_and_run(query, opening)
     }
 
     #[tactic(auto, using(crate::proofs::ShowLaws::shown, crate::proofs::ShowLaws::too_long_shown, crate::proofs::ShowLaws::no_memory, crate::proofs::ShowLaws::unanswered))]
     fn type_and_run(&mut self, query: &Query, opening: &Opening) -> Result<Back, Refusal>
-        requires ready { self.old.output.is_ready ≡ true }
+        requires ready { KEPT_ROOM ≤ self.old.output.spare }
         requires servable { IsServable opening.now }
         ensures ok { IfOk result (λ message. Done (TypesOrMemory opening.now query.now message) self.old None self.new) }
         ensures err { IfErr result (λ why. Stopped (TypesOrMemory opening.now query.now) self.old why self.new) }
@@ -72,11 +69,11 @@ impl Session {
         answer: &VTable,
         features: &Features,
     ) -> Result<(), Refusal>
-        requires { self.old.output.is_ready ≡ true }
+        requires { KEPT_ROOM ≤ self.old.output.spare }
         ensures ok { OnOk result (self.new.output.bytes ≡ self.old.output.bytes ++ spelled (answer_messages features.now columns.now answer.now)) }
         ensures err { OnErr result (self.new.output.bytes ≡ self.old.output.bytes) }
         ensures sends { Sends (answer_too_long features.now columns.now answer.now) result }
-        ensures ready { self.new.output.is_ready ≡ true }
+        ensures ready { KEPT_ROOM ≤ self.new.output.spare }
         ensures state { KeepsState self.old self.new }
     {
         put_answer(self.alloc, columns, answer, features, &mut self.output)
@@ -85,7 +82,7 @@ impl Session {
     /// Goes on behind an answer, whose tag is sent at once where other statements are left.
     #[tactic(auto, using(crate::proofs::ShowLaws::goes_last, crate::proofs::ShowLaws::goes_left))]
     pub(crate) fn go_past(&mut self, message: Back, mut left: Left) -> Option<Refusal>
-        requires { self.old.output.is_ready ≡ true }
+        requires { KEPT_ROOM ≤ self.old.output.spare }
         ensures { Done (GoesOn message left) self.old result self.new }
     {
         match left.next() {
@@ -100,7 +97,7 @@ impl Session {
     /// Sends the tag of an answer before the next statement.
     #[tactic(auto, using(crate::proofs::ShowLaws::goes_to, crate::proofs::ShowLaws::goes_not))]
     fn go_to(&mut self, message: &Back, next: Statement, left: Left) -> Option<Refusal>
-        requires { self.old.output.is_ready ≡ true }
+        requires { KEPT_ROOM ≤ self.old.output.spare }
         ensures { Done (GoesOn message.now (next ∷ left)) self.old result self.new }
     {
         match self.output.put(message) {

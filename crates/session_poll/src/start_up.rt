@@ -1,28 +1,30 @@
 //! The start-up rule: which start-up message is taken, and what it is answered.
 
-ghost use Rattle.std.specs.Prelude.{◌≡◌, ◌++◌, [], ◌∷◌, map, drop, take, codes, length, Option, Some, None, not, ◌&&◌, ◌==◌, ◌<◌, if◌then◌else◌, OnOk, IfOk, IfSome, IfNone, true, OnErr};
-ghost use Rattle.std.specs.List.{list_any, flat_map};
+ghost use Rattle.std.specs.Prelude.{◌≤◌, ◌≡◌, ◌++◌, [], codes, length, Option, Some, None, ◌&&◌, ◌==◌, ◌<◌, if◌then◌else◌, OnOk, IfOk, OnErr};
+ghost use Rattle.std.specs.List.{list_any};
 ghost use Rattle.std.specs.Option.{option_map};
-ghost use Rattle.session_poll.specs.StartUps.{is_taken, is_refused_name, is_not_empty, value_of, value_in, later_or, with_commas, piece, fixed_parameters, welcome, StartsUp, Welcomes};
+ghost use Rattle.session_replies.specs.declared.output.TheConstants.{KEPT_ROOM};
+ghost use Rattle.session_poll.specs.StartUps.{is_taken, is_refused_name, is_not_empty, value_of, with_commas, piece, fixed_parameters, welcome, StartsUp, Welcomes};
 ghost use Rattle.session_poll.specs.Parts.{Takes, KeepsState};
-ghost use Rattle.session_poll.specs.Replies.{spelled};
+ghost use Rattle.session_replies.specs.Replies.{spelled};
 ghost use Rattle.session_poll.specs.State.{status_of, transaction_of};
 ghost use Rattle.session_poll.specs.StartUps as rule;
 ghost use Rattle.session_poll.specs.Steps.{RefusesStart};
 
+use crate::fixed::OUT_OF_MEMORY;
 use crate::opening::Opening;
-use crate::replies::{OUT_OF_MEMORY, parameter};
 use crate::session::Session;
 use crate::state::Phase;
 use feature_expr::{Features, List, Memory, print_expr};
 use pg_messages::{Back, Pair, Startup, Status};
+use session_replies::parameter;
 use std::alloc::Global;
 
 impl Session {
     /// Answers a start-up packet.
     #[tactic(auto, using(crate::proofs::StartLaws::starts_up, crate::proofs::StartLaws::starts_not))]
     pub(crate) fn start_up(&mut self, packet: &Startup, opening: &Opening)
-        requires { self.old.output.is_ready ≡ true }
+        requires { KEPT_ROOM ≤ self.old.output.spare }
         ensures { Takes (StartsUp opening.now packet.now) self.old self.new }
     {
         if is_taken(packet) {
@@ -34,7 +36,7 @@ impl Session {
 
     #[tactic(auto, using(crate::proofs::StartLaws::welcomed, crate::proofs::StartLaws::not_welcomed))]
     fn welcome(&mut self, opening: &Opening)
-        requires { self.old.output.is_ready ≡ true }
+        requires { KEPT_ROOM ≤ self.old.output.spare }
         ensures { Takes (Welcomes opening.now) self.old self.new }
     {
         match self.put_welcome(opening) {
@@ -44,10 +46,10 @@ impl Session {
     }
 
     fn put_welcome(&mut self, opening: &Opening) -> Result<(), Memory>
-        requires { self.old.output.is_ready ≡ true }
+        requires { KEPT_ROOM ≤ self.old.output.spare }
         ensures ok { OnOk result (self.new.output.bytes ≡ self.old.output.bytes ++ spelled (rule.welcome opening.now (status_of (transaction_of self.old.transaction)))) }
         ensures err { OnErr result (self.new.output.bytes ≡ self.old.output.bytes) }
-        ensures ready { self.new.output.is_ready ≡ true }
+        ensures ready { KEPT_ROOM ≤ self.new.output.spare }
         ensures state { KeepsState self.old self.new }
     {
         let messages = welcome(self.alloc, opening, self.transaction.status())?;
@@ -57,7 +59,7 @@ impl Session {
     /// Want of memory stands for a start-up packet that wasn't read, and the session still waits for one.
     #[tactic(auto, using(crate::proofs::StartLaws::refused))]
     pub(crate) fn refuse_start(&mut self)
-        requires { self.old.output.is_ready ≡ true }
+        requires { KEPT_ROOM ≤ self.old.output.spare }
         ensures { Takes RefusesStart self.old self.new }
     {
         self.output.put_fixed(OUT_OF_MEMORY);

@@ -2,7 +2,7 @@
 use Rattle.std.proofs.Common.{◌≡◌, ◌∙◌, ℕ, zero, suc, ◌+◌, ◌<◌, ◌≤◌, Bool, true, false, not, ◌&&◌, ◌||◌, List, [], ◌∷◌, ◌++◌, length, take, drop, Option, Some, None, inl, inr, ◌⊎◌, refl, sym, ap, subst, append_assoc, append-nil, take-append-drop, take_all, take-add, le_of_eq, drop_of_length-le, true≢false, arith}
 use Rattle.std.specs.Io.KnownBytes.{Appends, Keeps}
 use Rattle.std.proofs.KnownBytes.{Appends-trans, Appends-nil}
-use Rattle.session_poll.specs.Output.{is_empty}
+use Rattle.session_replies.specs.Output.{is_empty}
 use Rattle.session_poll.specs.Polls.{Polls}
 use Rattle.session_poll.specs.Runs.{Did, bytes_read, IsAt}
 use Rattle.session_poll.specs.Session.{held_of, waiting_of, is_over}

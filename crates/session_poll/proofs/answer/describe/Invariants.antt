@@ -1,6 +1,0 @@
-use Rattle.std.proofs.Common.{◌≡◌, ◌++◌, map, drop}
-use Rattle.session_poll.specs.AnswerMessages.{column_field}
-use Rattle.session_poll.proofs.answer.describe.Given as goal
-
-abbrev pub invariant-columns : goal.invariant-columns
-invariant-columns l = l.fields.items ++ map (column_field l.features) (drop l.column-index l.columns) ≡ map (column_field l.features) l.columns

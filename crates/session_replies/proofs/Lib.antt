@@ -1,0 +1,4 @@
+mod LengthLaws
+mod OutputLaws
+mod PieceLaws
+mod RowLaws
