@@ -1,12 +1,13 @@
+ghost use Rattle.vschema.specs.Formed.{IsFormed};
+
 use crate::named::{kind_word, listed, statement, table_names};
+use feature_expr::Features;
 use query_meaning::{IllCase, TypeRefused};
-use query_names::{NamesRefused, names_of, param_kinds};
+use query_names::{NamesRefused, TableNames, names_of, param_kinds};
 use std::alloc::Global;
-use std::process::Abort;
-use std::test::Fail;
-use values::Kind;
+use values::{Kind, List};
 use vra_syntax::Statement;
-use vschema::parse_catalog;
+use vschema::{Catalog, OpeningRow, parse_catalog};
 
 const CATALOGUE: &str =
     "features A, B; table emp (id int8, name text, pay int8) when A; table dept (id int8, boss text); table odd (id text, x bool);";
@@ -32,20 +33,8 @@ select nothing, pay from emp => pay int8
 ";
 
 #[test]
-fn possible_columns_are_known(rt: HostRuntime) -> Result<(), Fail> {
-    let alloc = rt.alloc();
-    let (catalog, rows) = parse_catalog(alloc, CATALOGUE.as_bytes())?;
-    let tables = table_names(alloc, &catalog, &rows)?;
-    for line in COLUMNS.lines() {
-        let (text, wanted) = line.split_once(" => ").ok_or("no arrow")?;
-        let statement = statement(alloc, text, &catalog.features)?;
-        if let Statement::Query(query) = &statement {
-            let names = names_of(alloc, &tables, query).ok().ok_or("names")?;
-            let columns = listed(alloc, names.possible.as_slice())?;
-            assert_eq!(&rt; columns.as_str(), wanted, "{text}");
-        }
-    }
-    Ok(())
+fn possible_columns_are_known(rt: HostRuntime) {
+    assert_eq!(rt; wrong_line(rt.alloc(), COLUMNS, Asked::Columns), "");
 }
 
 /// A statement, and the kinds of its parameters or why they have none, a line each.
@@ -69,40 +58,104 @@ begin =>
 ";
 
 #[test]
-fn kinds_are_known(rt: HostRuntime) -> Result<(), Fail> {
-    let alloc = rt.alloc();
-    let (catalog, rows) = parse_catalog(alloc, CATALOGUE.as_bytes())?;
-    let tables = table_names(alloc, &catalog, &rows)?;
-    for line in KINDS.lines() {
-        let (text, wanted) = line.split_once(" => ").ok_or("no arrow")?;
-        let statement = statement(alloc, text, &catalog.features)?;
-        let mut answer = String::new(alloc);
-        match param_kinds(alloc, &tables, &statement, &[]) {
-            Ok(kinds) => put_kinds(&mut answer, kinds.as_slice())?,
-            Err(why) => put_refusal(&mut answer, &why)?,
-        }
-        assert_eq!(&rt; answer.as_str(), wanted, "{text}");
-    }
-    Ok(())
+fn kinds_are_known(rt: HostRuntime) {
+    assert_eq!(rt; wrong_line(rt.alloc(), KINDS, Asked::Kinds), "");
 }
 
-fn put_kinds(answer: &mut String, kinds: &[Kind]) -> Result<(), Fail> {
+/// What is asked of each line's statement.
+#[derive(Clone, Copy)]
+enum Asked {
+    Columns,
+    Kinds,
+}
+
+/// The first line whose statement isn't answered as it says, or an empty one.
+fn wrong_line(alloc: Global, lines: &'static str, asked: Asked) -> &'static str {
+    match parse_catalog(alloc, CATALOGUE.as_bytes()) {
+        Ok((catalog, rows)) => wrong_over(alloc, &catalog, &rows, lines, asked),
+        Err(_refused) => "no catalogue",
+    }
+}
+
+fn wrong_over(
+    alloc: Global,
+    catalog: &Catalog,
+    rows: &List<OpeningRow>,
+    lines: &'static str,
+    asked: Asked,
+) -> &'static str
+    requires { IsFormed catalog.now rows.now }
+{
+    match table_names(alloc, catalog, rows) {
+        Ok(tables) => first_wrong(alloc, &tables, &catalog.features, lines, asked),
+        Err(_memory) => "no memory",
+    }
+}
+
+fn first_wrong(
+    alloc: Global,
+    tables: &TableNames<'_>,
+    features: &Features,
+    lines: &'static str,
+    asked: Asked,
+) -> &'static str {
+    for line in lines.lines() {
+        if is_answered(alloc, tables, features, line, asked) != Some(true) {
+            return line;
+        }
+    }
+    ""
+}
+
+fn is_answered(
+    alloc: Global,
+    tables: &TableNames<'_>,
+    features: &Features,
+    line: &str,
+    asked: Asked,
+) -> Option<bool> {
+    let (text, wanted) = line.split_once(" => ")?;
+    let statement = statement(alloc, text, features)?;
+    let answer = match asked {
+        Asked::Columns => columns_of(alloc, tables, &statement)?,
+        Asked::Kinds => kinds_of(alloc, tables, &statement)?,
+    };
+    Some(answer.as_slice() == wanted.as_bytes())
+}
+
+fn columns_of(alloc: Global, tables: &TableNames<'_>, statement: &Statement) -> Option<Vec<u8>> {
+    let Statement::Query(query) = statement else {
+        return None;
+    };
+    match names_of(alloc, tables, query) {
+        Ok(names) => listed(alloc, names.possible.as_slice()),
+        Err(_refused) => None,
+    }
+}
+
+fn kinds_of(alloc: Global, tables: &TableNames<'_>, statement: &Statement) -> Option<Vec<u8>> {
+    match param_kinds(alloc, tables, statement, &[]) {
+        Ok(kinds) => kind_words(alloc, kinds.as_slice()),
+        Err(TypeRefused::Ill(why)) => Some(refusal(alloc, why.case)?.into_bytes()),
+        Err(_) => None,
+    }
+}
+
+fn kind_words(alloc: Global, kinds: &[Kind]) -> Option<Vec<u8>> {
+    let mut words = Vec::new(alloc);
     for kind in kinds {
-        answer.push_str(kind_word(*kind))?;
+        words.extend_from_slice(kind_word(*kind)).ok()?;
     }
-    Ok(())
+    Some(words)
 }
 
-fn put_refusal(answer: &mut String, why: &TypeRefused) -> Result<(), Fail> {
-    if let TypeRefused::Ill(why) = why {
-        match why.case {
-            IllCase::NoTable => answer.push_str("no table")?,
-            IllCase::NoColumn => answer.push_str("no column")?,
-            IllCase::ParamKind(number) => write!(answer, "no kind of {number}")?,
-            _ => {}
-        }
+fn refusal(alloc: Global, case: IllCase) -> Option<String> {
+    match case {
+        IllCase::NoTable => format!(in alloc; "no table").ok(),
+        IllCase::NoColumn => format!(in alloc; "no column").ok(),
+        IllCase::ParamKind(number) => format!(in alloc; "no kind of {number}").ok(),
+        _ => None,
     }
-    Ok(())
 }
 
 /// How many tables of 64 columns, no two of one name, are joined on the left and on the right of a union, and the count
@@ -116,47 +169,76 @@ const WIDTHS: [(usize, usize, u64); 5] = [
 ];
 
 #[test]
-fn the_first_part_that_is_too_wide_is_shown(rt: HostRuntime) -> Result<(), Fail> {
-    let alloc = rt.alloc();
-    let spelled = wide_tables(alloc)?;
-    let (catalog, rows) = parse_catalog(alloc, spelled.as_bytes())?;
-    let tables = table_names(alloc, &catalog, &rows)?;
+fn the_first_part_that_is_too_wide_is_shown(rt: HostRuntime) {
     for (left, right, wanted) in WIDTHS {
-        let mut text = String::new(alloc);
-        put_join(&mut text, left)?;
-        text.push_str(" union ")?;
-        put_join(&mut text, right)?;
-        let statement = statement(alloc, text.as_str(), &catalog.features)?;
-        if let Statement::Query(query) = &statement {
-            let shown = match names_of(alloc, &tables, query) {
-                Err(NamesRefused::TooWide(count)) => count,
-                _ => 0,
-            };
-            assert_eq!(&rt; shown, wanted, "{left} and {right}");
-        }
+        let shown = shown_width(rt.alloc(), left, right);
+        assert_eq!(rt; shown, Some(wanted), "{left} and {right}");
     }
-    Ok(())
 }
 
-fn wide_tables(alloc: Global) -> Result<String, Fail> {
+fn shown_width(alloc: Global, left: usize, right: usize) -> Option<u64> {
+    let spelled = wide_tables(alloc)?;
+    let text = joins(alloc, left, right)?;
+    width_in(alloc, spelled.as_bytes(), text.as_str())
+}
+
+fn width_in(alloc: Global, spelled: &[u8], text: &str) -> Option<u64> {
+    match parse_catalog(alloc, spelled) {
+        Ok((catalog, rows)) => width_over(alloc, &catalog, &rows, text),
+        Err(_refused) => None,
+    }
+}
+
+fn width_over(alloc: Global, catalog: &Catalog, rows: &List<OpeningRow>, text: &str) -> Option<u64>
+    requires { IsFormed catalog.now rows.now }
+{
+    match table_names(alloc, catalog, rows) {
+        Ok(tables) => width_of(alloc, &tables, &statement(alloc, text, &catalog.features)?),
+        Err(_memory) => None,
+    }
+}
+
+fn width_of(alloc: Global, tables: &TableNames<'_>, statement: &Statement) -> Option<u64> {
+    let Statement::Query(query) = statement else {
+        return None;
+    };
+    match names_of(alloc, tables, query) {
+        Ok(_names) => Some(0),
+        Err(NamesRefused::TooWide(count)) => Some(count),
+        Err(NamesRefused::Memory) => None,
+    }
+}
+
+fn wide_tables(alloc: Global) -> Option<String> {
     let mut text = String::new(alloc);
-    text.push_str("features A;")?;
+    text.push_str("features A;").ok()?;
     for table in 0..27_u64 {
-        write!(text, " table t{table} (")?;
-        for column in 0..64_u64 {
-            let between = if column == 0 { "" } else { ", " };
-            write!(text, "{between}c{table}x{column} int8")?;
-        }
-        text.push_str(");")?;
+        put_table(&mut text, table)?;
     }
-    Ok(text)
+    Some(text)
 }
 
-fn put_join(text: &mut String, count: usize) -> Result<(), Fail> {
-    text.push_str("(select * from t0")?;
-    for table in 1..count {
-        write!(text, " join t{table} on true")?;
+fn put_table(text: &mut String, table: u64) -> Option<()> {
+    write!(text, " table t{table} (").ok()?;
+    for column in 0..64_u64 {
+        let between = if column == 0 { "" } else { ", " };
+        write!(text, "{between}c{table}x{column} int8").ok()?;
     }
-    text.push_str(")")?;
-    Ok(())
+    text.push_str(");").ok()
+}
+
+fn joins(alloc: Global, left: usize, right: usize) -> Option<String> {
+    let mut text = String::new(alloc);
+    put_join(&mut text, left)?;
+    text.push_str(" union ").ok()?;
+    put_join(&mut text, right)?;
+    Some(text)
+}
+
+fn put_join(text: &mut String, count: usize) -> Option<()> {
+    text.push_str("(select * from t0").ok()?;
+    for table in 1..count {
+        write!(text, " join t{table} on true").ok()?;
+    }
+    text.push_str(")").ok()
 }

@@ -7,7 +7,6 @@ use feature_expr::Features;
 use query_names::{PossibleColumn, TableNames};
 use query_parser::parse;
 use std::alloc::Global;
-use std::test::Fail;
 use values::{Kind, List, Memory, Name};
 use vra_syntax::Statement;
 use vschema::{Catalog, OpeningRow};
@@ -23,38 +22,35 @@ pub fn table_names<'a>(
 }
 
 /// The only statement of a text.
-pub fn statement(alloc: Global, text: &str, features: &Features) -> Result<Statement, Fail> {
-    let mut statements = parse(alloc, text, features, true)?;
-    let statement = statements.pop().ok_or("no statement")?;
-    Ok(statement)
-}
-
-fn put_name(text: &mut String, name: &Name) -> Result<(), Fail> {
-    text.push_str(str::from_utf8(name.as_slice())?)?;
-    Ok(())
+pub fn statement(alloc: Global, text: &str, features: &Features) -> Option<Statement> {
+    parse(alloc, text, features, true).ok()?.pop()
 }
 
 /// The columns with their kinds, with `, ` between them.
-pub fn listed(alloc: Global, columns: &[PossibleColumn]) -> Result<String, Fail> {
-    let mut text = String::new(alloc);
-    let mut between = "";
+pub fn listed(alloc: Global, columns: &[PossibleColumn]) -> Option<Vec<u8>> {
+    let mut text = Vec::new(alloc);
     for column in columns {
-        text.push_str(between)?;
-        if let Some(prefix) = column.prefix {
-            put_name(&mut text, prefix)?;
-            text.push_str(".")?;
+        if !text.is_empty() {
+            text.extend_from_slice(b", ").ok()?;
         }
-        put_name(&mut text, column.base)?;
-        text.push_str(kind_word(column.kind))?;
-        between = ", ";
+        put_column(&mut text, column)?;
     }
-    Ok(text)
+    Some(text)
 }
 
-pub fn kind_word(kind: Kind) -> &'static str {
+fn put_column(text: &mut Vec<u8>, column: &PossibleColumn) -> Option<()> {
+    if let Some(prefix) = column.prefix {
+        text.extend_from_slice(prefix.as_slice()).ok()?;
+        text.extend_from_slice(b".").ok()?;
+    }
+    text.extend_from_slice(column.base.as_slice()).ok()?;
+    text.extend_from_slice(kind_word(column.kind)).ok()
+}
+
+pub fn kind_word(kind: Kind) -> &'static [u8] {
     match kind {
-        Kind::Int => " int8",
-        Kind::Text => " text",
-        Kind::Bool => " bool",
+        Kind::Int => b" int8",
+        Kind::Text => b" text",
+        Kind::Bool => b" bool",
     }
 }
