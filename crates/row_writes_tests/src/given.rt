@@ -7,7 +7,6 @@ use condition_sat::Model;
 use feature_expr::{Features, parse_expr};
 use query_parser::parse;
 use std::alloc::Global;
-use std::test::Fail;
 use values::{List, Memory, Text, TryCopy, Value};
 use vra_syntax::{Statement, Write};
 use vschema::{Catalog, OpeningRow, Table};
@@ -29,42 +28,48 @@ pub fn first_table<'a>(catalog: &'a Catalog, rows: &List<OpeningRow>) -> Option<
 }
 
 /// The only write of a text.
-pub fn write(alloc: Global, text: &str, features: &Features) -> Result<Write, Fail> {
-    let mut statements = parse(alloc, text, features, true)?;
-    match statements.pop() {
-        Some(Statement::Write(write)) => Ok(write),
-        _ => Err("no write".into()),
+pub fn write(alloc: Global, text: &str, features: &Features) -> Option<Write> {
+    match parse(alloc, text, features, true).ok()?.pop() {
+        Some(Statement::Write(write)) => Some(write),
+        _ => None,
     }
 }
 
 /// Rows with `|` between them.
-pub fn rows(alloc: Global, text: &str, features: &Features) -> Result<List<VRow>, Fail> {
+pub fn rows(alloc: Global, text: &str, features: &Features) -> Option<List<VRow>> {
     let mut rows = Vec::new(alloc);
     for text in text.split(" | ") {
-        rows.push(row(alloc, text, features)?)?;
+        rows.push(row(alloc, text, features)?).ok()?;
     }
-    Ok(List::from_vec(rows))
+    Some(List::from_vec(rows))
 }
 
 /// A row of three cells: an integer is spelled by digits, any other word is a text, and `-` no cell. Behind them stands
 /// its condition.
-fn row(alloc: Global, text: &str, features: &Features) -> Result<VRow, Fail> {
-    let mut cells = List::new(alloc);
+fn row(alloc: Global, text: &str, features: &Features) -> Option<VRow> {
     let mut words = text.splitn(4, ' ');
-    for _ in 0..3 {
-        let cell = cell(alloc, words.next().unwrap_or("-"))?;
-        cells.push(cell).ok().ok_or("memory")?;
-    }
-    let cond = parse_expr(alloc, words.next().unwrap_or(""), features, 64)?;
-    Ok(VRow { cells, cond })
+    let one = words.next()?;
+    let two = words.next()?;
+    let three = words.next()?;
+    let cond = parse_expr(alloc, words.next()?, features, 64).ok()?;
+    let cells = cells(alloc, &[one, two, three])?;
+    Some(VRow { cells, cond })
 }
 
-fn cell(alloc: Global, word: &str) -> Result<Option<Value>, Fail> {
+fn cells(alloc: Global, words: &[&str]) -> Option<List<Option<Value>>> {
+    let mut cells = List::new(alloc);
+    for word in words {
+        cells.push(cell(alloc, word)?).ok()?;
+    }
+    Some(cells)
+}
+
+fn cell(alloc: Global, word: &str) -> Option<Option<Value>> {
     if word == "-" {
-        return Ok(None);
+        return Some(None);
     }
     match word.parse::<i64>() {
-        Ok(number) => Ok(Some(Value::Int(number))),
-        Err(_text) => Ok(Some(Value::Text(Text::from_slice(alloc, word.as_bytes())?))),
+        Ok(number) => Some(Some(Value::Int(number))),
+        Err(_text) => Some(Some(Value::Text(Text::from_slice(alloc, word.as_bytes()).ok()?))),
     }
 }

@@ -1,10 +1,14 @@
+ghost use Rattle.std.specs.Prelude.{◌≡◌, true};
+ghost use Rattle.vschema.specs.Formed.{IsFormed, has_distinct_columns};
+
 use crate::given::{first_table, model_of, rows, write};
 use asked_conditions::Questions;
 use condition_sat::Model;
+use feature_expr::Features;
 use row_writes::{stored_columns, write_rows};
-use std::test::Fail;
-use values::Memory;
-use vschema::parse_catalog;
+use std::alloc::Global;
+use values::List;
+use vschema::{Catalog, OpeningRow, Table, parse_catalog};
 use vtable::VRow;
 
 /// Its variants are {A}, {B} and {A,B}.
@@ -32,38 +36,86 @@ insert into stock (label, sku) values ('rod', 8) when A and not A => 5 nut 70 tr
 ";
 
 #[test]
-fn rows_are_written_as_worked_out(rt: HostRuntime) -> Result<(), Fail> {
-    let alloc = rt.alloc();
-    let (catalog, opening) = parse_catalog(alloc, CATALOGUE.as_bytes())?;
-    let model = model_of(alloc, &catalog)?;
-    let mut questions = Questions::new(alloc, &model);
-    let Some(table) = first_table(&catalog, &opening) else {
-        return Err("no table".into());
-    };
-    let columns = stored_columns(alloc, table)?;
+fn rows_are_written_as_worked_out(rt: HostRuntime) {
+    assert_eq!(rt; miswritten(rt.alloc()), Some(""));
+}
+
+/// The first line whose write gives other rows, or an empty one.
+fn miswritten(alloc: Global) -> Option<&'static str> {
+    let (catalog, opening) = parse_catalog(alloc, CATALOGUE.as_bytes()).ok()?;
+    miswritten_over(alloc, &catalog, &opening)
+}
+
+fn miswritten_over(
+    alloc: Global,
+    catalog: &Catalog,
+    opening: &List<OpeningRow>,
+) -> Option<&'static str>
+    requires { IsFormed catalog.now opening.now }
+{
+    let table = first_table(catalog, opening)?;
+    let model = model_of(alloc, catalog).ok()?;
+    first_miswritten(alloc, &model, &catalog.features, table)
+}
+
+fn first_miswritten(
+    alloc: Global,
+    model: &Model,
+    features: &Features,
+    table: &Table,
+) -> Option<&'static str>
+    requires { has_distinct_columns table.now ≡ true }
+{
+    let mut questions = Questions::new(alloc, model);
     for line in WRITES.lines() {
-        let (text, wanted) = line.split_once(" => ").ok_or("no arrow")?;
-        let write = write(alloc, text, &catalog.features)?;
-        let stored = rows(alloc, STORED, &catalog.features)?;
-        let written = write_rows(alloc, &mut questions, table, &columns, &write, stored)?;
-        let wanted = rows(alloc, wanted, &catalog.features)?;
-        let same = are_wanted(&model, written.as_slice(), wanted.as_slice())?;
-        assert!(&rt; same, "{text}");
+        let (text, wanted) = line.split_once(" => ")?;
+        let written = written(alloc, &mut questions, features, table, text)?;
+        if !are_wanted(alloc, model, features, written.as_slice(), wanted)? {
+            return Some(line);
+        }
     }
-    Ok(())
+    Some("")
+}
+
+/// The rows after the write.
+fn written(
+    alloc: Global,
+    questions: &mut Questions<'_>,
+    features: &Features,
+    table: &Table,
+    text: &str,
+) -> Option<List<VRow>>
+    requires { has_distinct_columns table.now ≡ true }
+{
+    let write = write(alloc, text, features)?;
+    let columns = stored_columns(alloc, table).ok()?;
+    let stored = rows(alloc, STORED, features)?;
+    write_rows(alloc, questions, table, &columns, &write, stored).ok()
 }
 
 /// Whether the rows have the wanted cells, under conditions that hold in the same variants.
-fn are_wanted(model: &Model, rows: &[VRow], wanted: &[VRow]) -> Result<bool, Memory> {
-    if rows.len() != wanted.len() {
-        return Ok(false);
+fn are_wanted(
+    alloc: Global,
+    model: &Model,
+    features: &Features,
+    found: &[VRow],
+    wanted: &str,
+) -> Option<bool> {
+    let wanted = rows(alloc, wanted, features)?;
+    if found.len() != wanted.len() {
+        return Some(false);
     }
-    for (row, wanted) in rows.iter().zip(wanted) {
-        if row.cells.as_slice() != wanted.cells.as_slice()
-            || !model.equivalent(&row.cond, &wanted.cond)?
-        {
-            return Ok(false);
+    for (row, wanted) in found.iter().zip(wanted.as_slice()) {
+        if !is_wanted(model, row, wanted)? {
+            return Some(false);
         }
     }
-    Ok(true)
+    Some(true)
+}
+
+fn is_wanted(model: &Model, row: &VRow, wanted: &VRow) -> Option<bool> {
+    if row.cells.as_slice() != wanted.cells.as_slice() {
+        return Some(false);
+    }
+    model.equivalent(&row.cond, &wanted.cond).ok()
 }
