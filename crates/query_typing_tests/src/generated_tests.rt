@@ -1,3 +1,5 @@
+ghost use Rattle.vschema.specs.Formed.{IsFormed};
+
 use crate::stated::{model_of, statement, table_names};
 use asked_conditions::Questions;
 use condition_sat::Model;
@@ -8,11 +10,9 @@ use query_meaning::{IllTyped, TypeRefused, TypedColumn};
 use query_names::TableNames;
 use query_typing::type_query;
 use std::alloc::Global;
-use std::process::Abort;
-use std::test::Fail;
 use values::List;
 use vra_syntax::{Query, Statement};
-use vschema::{Catalog, parse_catalog};
+use vschema::{Catalog, OpeningRow, parse_catalog};
 
 /// How many catalogues are made, and how many queries over each.
 const CATALOGUES: u64 = 50;
@@ -22,64 +22,113 @@ const QUERIES: u64 = 10;
 /// A query is typed where the plain evaluator types it in each admitted variant. Its columns are then the plain type's
 /// in each. Else the case that is shown is one that the evaluator finds, in the variant that is shown.
 #[test]
-fn generated_queries_are_typed_as_the_evaluator_says(rt: HostRuntime) -> Result<(), Fail> {
-    let alloc = rt.alloc();
+fn generated_queries_are_typed_as_the_evaluator_says(rt: HostRuntime) {
     for seed in 0..CATALOGUES {
-        let mut random = Random::new(1_000 + seed);
-        let spelled = generated_catalogue(alloc, &mut random)?;
-        let (catalog, rows) = parse_catalog(alloc, spelled.as_bytes())?;
-        let tables = table_names(alloc, &catalog, &rows)?;
-        let model = model_of(alloc, &catalog)?;
-        for _ in 0..QUERIES {
-            let text = generated_query(alloc, &mut random, &catalog, &rows)?;
-            let statement = statement(alloc, text.as_str(), &catalog.features)?;
-            if let Statement::Query(query) = &statement {
-                is_same(&rt, alloc, &catalog, &model, &tables, query)?;
-            }
+        assert!(rt;
+            are_seeded(rt.alloc(), 1_000 + seed) == Some(true),
+            "{seed}"
+        );
+    }
+}
+
+fn are_seeded(alloc: Global, seed: u64) -> Option<bool> {
+    let mut random = Random::new(seed);
+    let spelled = generated_catalogue(alloc, &mut random).ok()?;
+    let (catalog, rows) = parse_catalog(alloc, spelled.as_bytes()).ok()?;
+    are_over(alloc, &mut random, &catalog, &rows)
+}
+
+fn are_over(
+    alloc: Global,
+    random: &mut Random,
+    catalog: &Catalog,
+    rows: &List<OpeningRow>,
+) -> Option<bool>
+    requires { IsFormed catalog.now rows.now }
+{
+    match table_names(alloc, catalog, rows) {
+        Ok(tables) => are_all(alloc, random, catalog, rows, &tables),
+        Err(_memory) => None,
+    }
+}
+
+fn are_all(
+    alloc: Global,
+    random: &mut Random,
+    catalog: &Catalog,
+    rows: &List<OpeningRow>,
+    tables: &TableNames<'_>,
+) -> Option<bool> {
+    let model = model_of(alloc, catalog).ok()?;
+    for _ in 0..QUERIES {
+        let text = generated_query(alloc, random, catalog, rows).ok()?;
+        if !is_said(alloc, catalog, &model, tables, text.as_str())? {
+            return Some(false);
         }
     }
-    Ok(())
+    Some(true)
+}
+
+fn is_said(
+    alloc: Global,
+    catalog: &Catalog,
+    model: &Model,
+    tables: &TableNames<'_>,
+    text: &str,
+) -> Option<bool> {
+    match &statement(alloc, text, &catalog.features)? {
+        Statement::Query(query) => is_same(alloc, catalog, model, tables, query),
+        _ => None,
+    }
 }
 
 fn is_same(
-    rt: &impl Abort,
     alloc: Global,
     catalog: &Catalog,
     model: &Model,
     tables: &TableNames<'_>,
     query: &Query,
-) -> Result<(), Fail> {
-    assert!(rt; tables.tables().len() < 256);
-    let wanted = is_well_typed(alloc, catalog, &PARAMETER_KINDS, query)?;
+) -> Option<bool> {
+    if tables.tables().len() >= 256 {
+        return None;
+    }
+    let wanted = is_well_typed(alloc, catalog, &PARAMETER_KINDS, query).ok()?;
     let mut questions = Questions::new(alloc, model);
     match type_query(alloc, &mut questions, tables, query, &PARAMETER_KINDS) {
         Ok(typed) => {
-            assert!(rt; wanted);
-            are_columns(rt, alloc, catalog, query, typed.columns().as_slice())
+            Some(wanted && are_columns(alloc, catalog, query, typed.columns().as_slice())?)
         }
-        Err(TypeRefused::Ill(why)) => {
-            assert!(rt; !wanted);
-            is_shown(rt, alloc, catalog, query, &why)
-        }
-        Err(_) => Err("too wide, or no memory".into()),
+        Err(TypeRefused::Ill(why)) => Some(!wanted && is_shown(alloc, catalog, query, &why)?),
+        Err(_) => None,
     }
 }
 
-/// The columns are those of the plain type, in each admitted variant.
+/// Whether the columns are those of the plain type, in each admitted variant.
 fn are_columns(
-    rt: &impl Abort,
     alloc: Global,
     catalog: &Catalog,
     query: &Query,
     columns: &[TypedColumn],
-) -> Result<(), Fail> {
-    for config in admitted(alloc, catalog)? {
-        match plain_type(alloc, catalog, query, config)? {
-            PlainType::Columns(wanted) => assert!(rt; are_there(columns, &wanted, &config)),
-            PlainType::Ill(_cases) => return Err("ill typed".into()),
+) -> Option<bool> {
+    for config in admitted(alloc, catalog).ok()? {
+        if !are_in(alloc, catalog, query, columns, config)? {
+            return Some(false);
         }
     }
-    Ok(())
+    Some(true)
+}
+
+fn are_in(
+    alloc: Global,
+    catalog: &Catalog,
+    query: &Query,
+    columns: &[TypedColumn],
+    config: Config,
+) -> Option<bool> {
+    match plain_type(alloc, catalog, query, config)? {
+        PlainType::Columns(wanted) => Some(are_there(columns, wanted.as_slice(), &config)),
+        PlainType::Ill(_cases) => Some(false),
+    }
 }
 
 fn plain_type(
@@ -87,7 +136,7 @@ fn plain_type(
     catalog: &Catalog,
     query: &Query,
     config: Config,
-) -> Result<PlainType, Fail> {
+) -> Option<PlainType> {
     let rows = List::new(alloc);
     let variant = Variant {
         alloc,
@@ -96,8 +145,7 @@ fn plain_type(
         kinds: &PARAMETER_KINDS,
         config,
     };
-    let found = variant.plain_type(query)?;
-    Ok(found)
+    variant.plain_type(query).ok()
 }
 
 /// Whether the variant has just these columns.
@@ -105,7 +153,7 @@ fn are_there(columns: &[TypedColumn], wanted: &[Column], config: &Config) -> boo
     let mut count = 0_usize;
     for column in columns {
         if eval(&column.cond, config) {
-            if !wanted.iter().any(|one| is_column(one, column)) {
+            if !is_among(wanted, column) {
                 return false;
             }
             count = count.saturating_add(1);
@@ -114,41 +162,41 @@ fn are_there(columns: &[TypedColumn], wanted: &[Column], config: &Config) -> boo
     count == wanted.len()
 }
 
-fn is_column(one: &Column, column: &TypedColumn) -> bool {
-    one.name == column.name && one.kind == column.kind
+fn is_among(wanted: &[Column], column: &TypedColumn) -> bool {
+    wanted
+        .iter()
+        .any(|one| one.name == column.name && one.kind == column.kind)
 }
 
-/// The case is one that the evaluator finds in the variant that is shown, which is an admitted one, or in the names.
-fn is_shown(
-    rt: &impl Abort,
-    alloc: Global,
-    catalog: &Catalog,
-    query: &Query,
-    why: &IllTyped,
-) -> Result<(), Fail> {
-    let cases = match why.config {
-        None => name_cases(alloc, catalog, &PARAMETER_KINDS, query)?,
-        Some(config) => {
-            assert!(rt; eval(&catalog.model, &config));
-            cases_in(alloc, catalog, query, config)?
+/// Whether the case is one that the evaluator finds in the variant that is shown, which is an admitted one, or in the
+/// names.
+fn is_shown(alloc: Global, catalog: &Catalog, query: &Query, why: &IllTyped) -> Option<bool> {
+    match why.config {
+        None => {
+            let cases = name_cases(alloc, catalog, &PARAMETER_KINDS, query).ok()?;
+            Some(is_found(cases.as_slice(), why))
         }
-    };
-    assert!(rt;
-        cases
-            .iter()
-            .any(|case| case.why == why.case && case.name == why.name)
-    );
-    Ok(())
+        Some(config) => {
+            Some(eval(&catalog.model, &config) && is_shown_in(alloc, catalog, query, config, why)?)
+        }
+    }
 }
 
-fn cases_in(
+fn is_shown_in(
     alloc: Global,
     catalog: &Catalog,
     query: &Query,
     config: Config,
-) -> Result<Vec<Case>, Fail> {
+    why: &IllTyped,
+) -> Option<bool> {
     match plain_type(alloc, catalog, query, config)? {
-        PlainType::Ill(cases) => Ok(cases),
-        PlainType::Columns(_columns) => Ok(Vec::new(alloc)),
+        PlainType::Ill(cases) => Some(is_found(cases.as_slice(), why)),
+        PlainType::Columns(_columns) => Some(false),
     }
+}
+
+fn is_found(cases: &[Case], why: &IllTyped) -> bool {
+    cases
+        .iter()
+        .any(|case| case.why == why.case && case.name == why.name)
 }

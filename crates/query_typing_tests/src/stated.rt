@@ -8,7 +8,6 @@ use feature_expr::Features;
 use query_names::TableNames;
 use query_parser::parse;
 use std::alloc::Global;
-use std::test::Fail;
 use values::{List, Memory, TryCopy};
 use vra_syntax::Statement;
 use vschema::{Catalog, OpeningRow};
@@ -29,8 +28,6 @@ pub fn model_of(alloc: Global, catalog: &Catalog) -> Result<Model, Memory> {
 }
 
 /// The only statement of a text.
-pub fn statement(alloc: Global, text: &str, features: &Features) -> Result<Statement, Fail> {
-    let mut statements = parse(alloc, text, features, true)?;
-    let statement = statements.pop().ok_or("no statement")?;
-    Ok(statement)
+pub fn statement(alloc: Global, text: &str, features: &Features) -> Option<Statement> {
+    parse(alloc, text, features, true).ok()?.pop()
 }
