@@ -1,18 +1,19 @@
 ghost use Rattle.std.specs.Prelude.{◌≡◌};
 ghost use Rattle.plan_exec_tests.specs.Opened.{IsOpened};
+ghost use Rattle.query_answers.specs.Answering.{CanAnswer};
 ghost use Rattle.vra_syntax.specs.Parameters.{param_in_query};
 
 use crate::answered::{Opened, answer, made, opening_of, typed};
 use crate::configured::configured;
+use feature_expr::Config;
 use generated_queries::{
     PARAMETER_KINDS, Random, generated_catalogue, generated_query, parameter_values,
 };
-use plain_evaluator::{Variant, admitted};
+use plain_evaluator::{Relation, Variant, admitted};
 use query_meaning::TypeRefused;
+use query_names::Typed;
 use query_parser::parse;
 use std::alloc::Global;
-use std::process::Abort;
-use std::test::Fail;
 use values::TryCopy;
 use vra_syntax::{Query, Statement, bind_params, param_count};
 use vtable::VTable;
@@ -28,126 +29,155 @@ const COMPARED: u64 = 1_000;
 /// The table that a plan makes, and the answer in table form, are in each admitted variant what the plain evaluator makes
 /// of the configured query: for each query that is generated, and for each of its parts.
 #[test]
-fn generated_plans_mean_what_the_evaluator_says(rt: HostRuntime) -> Result<(), Fail> {
-    let alloc = rt.alloc();
-    let mut compared = 0_u64;
+fn generated_plans_mean_what_the_evaluator_says(rt: HostRuntime) {
+    let mut all = 0_u64;
     for seed in 0..CATALOGUES {
-        let mut random = Random::new(3_000 + seed);
-        let spelled = generated_catalogue(alloc, &mut random)?;
-        let Some(opened) = opening_of(alloc, spelled.as_bytes()) else {
-            return Err("no catalogue".into());
-        };
-        for _ in 0..QUERIES {
-            let text = generated_query(alloc, &mut random, &opened.catalog, &opened.rows)?;
-            if let Statement::Query(query) = bound(alloc, &opened, text.as_str())? {
-                let count = compared_parts(&rt, alloc, &opened, &query)?;
-                compared = compared.saturating_add(count);
-            }
-        }
+        let compared = compared_over(rt.alloc(), 3_000 + seed);
+        assert!(rt; compared.is_some(), "{seed}");
+        all = all.saturating_add(compared.unwrap_or(0));
     }
-    assert!(&rt; compared >= COMPARED);
-    Ok(())
+    assert!(rt; all >= COMPARED);
+}
+
+/// Compares the queries over a generated catalogue, and counts the plans; nothing where some is another than the
+/// evaluator's, or isn't made.
+fn compared_over(alloc: Global, seed: u64) -> Option<u64> {
+    let mut random = Random::new(seed);
+    let spelled = generated_catalogue(alloc, &mut random).ok()?;
+    let opened = opening_of(alloc, spelled.as_bytes())?;
+    compared_queries(alloc, &mut random, &opened)
+}
+
+fn compared_queries(alloc: Global, random: &mut Random, opened: &Opened) -> Option<u64>
+    requires { IsOpened opened.now }
+{
+    let mut compared = 0_u64;
+    for _ in 0..QUERIES {
+        let text = generated_query(alloc, random, &opened.catalog, &opened.rows).ok()?;
+        let count = compared_text(alloc, opened, text.as_str())?;
+        compared = compared.saturating_add(count);
+    }
+    Some(compared)
+}
+
+fn compared_text(alloc: Global, opened: &Opened, text: &str) -> Option<u64>
+    requires { IsOpened opened.now }
+{
+    match &bound(alloc, opened, text)? {
+        Statement::Query(query) => compared_parts(alloc, opened, query),
+        _ => None,
+    }
 }
 
 /// Compares the query and its parts, and counts those that are well typed and no bare tables.
-fn compared_parts(
-    rt: &impl Abort,
-    alloc: Global,
-    opened: &Opened,
-    query: &Query,
-) -> Result<u64, Fail>
+fn compared_parts(alloc: Global, opened: &Opened, query: &Query) -> Option<u64>
     requires { IsOpened opened.now }
 {
     let below = match query {
-        Query::Table(_name) => return Ok(0),
-        Query::Empty => return Ok(0),
-        Query::Select(_items, source, _cond) => compared_parts(rt, alloc, opened, source.get())?,
-        Query::Alias(source, _name) => compared_parts(rt, alloc, opened, source.get())?,
+        Query::Table(_name) => return Some(0),
+        Query::Empty => return Some(0),
+        Query::Select(_items, source, _cond) => compared_parts(alloc, opened, source.get())?,
+        Query::Alias(source, _name) => compared_parts(alloc, opened, source.get())?,
         Query::Join(left, right, _cond) => {
-            let one = compared_parts(rt, alloc, opened, left.get())?;
-            one.saturating_add(compared_parts(rt, alloc, opened, right.get())?)
+            let one = compared_parts(alloc, opened, left.get())?;
+            one.saturating_add(compared_parts(alloc, opened, right.get())?)
         }
         Query::Union(left, right) => {
-            let one = compared_parts(rt, alloc, opened, left.get())?;
-            one.saturating_add(compared_parts(rt, alloc, opened, right.get())?)
+            let one = compared_parts(alloc, opened, left.get())?;
+            one.saturating_add(compared_parts(alloc, opened, right.get())?)
         }
         Query::Except(left, right) => {
-            let one = compared_parts(rt, alloc, opened, left.get())?;
-            one.saturating_add(compared_parts(rt, alloc, opened, right.get())?)
+            let one = compared_parts(alloc, opened, left.get())?;
+            one.saturating_add(compared_parts(alloc, opened, right.get())?)
         }
         Query::Choice(_expr, left, right) => {
-            let one = compared_parts(rt, alloc, opened, left.get())?;
-            one.saturating_add(compared_parts(rt, alloc, opened, right.get())?)
+            let one = compared_parts(alloc, opened, left.get())?;
+            one.saturating_add(compared_parts(alloc, opened, right.get())?)
         }
     };
-    let statement = Statement::Query(query.copy(alloc)?);
-    let here = is_compared(rt, alloc, opened, &statement)?;
-    Ok(below.saturating_add(u64::from(here)))
+    let here = compared_whole(alloc, opened, query)?;
+    Some(below.saturating_add(here))
 }
 
 /// The only statement of a text, with values for its parameters.
-fn bound(alloc: Global, opened: &Opened, text: &str) -> Result<Statement, Fail> {
-    let mut statements = parse(alloc, text, &opened.catalog.features, true)?;
-    let statement = statements.pop().ok_or("no statement")?;
-    let values = parameter_values(alloc)?;
-    let statement = bind_params(alloc, &statement, &values)?;
-    Ok(statement)
+fn bound(alloc: Global, opened: &Opened, text: &str) -> Option<Statement> {
+    let statement = parse(alloc, text, &opened.catalog.features, true)
+        .ok()?
+        .pop()?;
+    let values = parameter_values(alloc).ok()?;
+    bind_params(alloc, &statement, &values).ok()
 }
 
-/// Whether the statement is a well-typed query. It is then compared.
-fn is_compared(
-    rt: &impl Abort,
-    alloc: Global,
-    opened: &Opened,
-    statement: &Statement,
-) -> Result<bool, Fail>
+/// One, where the query has no parameters and is well typed. It is then compared.
+fn compared_whole(alloc: Global, opened: &Opened, query: &Query) -> Option<u64>
+    requires { IsOpened opened.now }
+{
+    let statement = Statement::Query(query.copy(alloc).ok()?);
+    compared_statement(alloc, opened, &statement)
+}
+
+fn compared_statement(alloc: Global, opened: &Opened, statement: &Statement) -> Option<u64>
     requires { IsOpened opened.now }
 {
     let count = param_count(statement);
     if let Statement::Query(query) = statement
         && count == 0
     {
-        return is_same(rt, alloc, opened, query);
+        return compared_query(alloc, opened, query);
     }
-    Ok(false)
+    Some(0)
 }
 
-fn is_same(rt: &impl Abort, alloc: Global, opened: &Opened, query: &Query) -> Result<bool, Fail>
+fn compared_query(alloc: Global, opened: &Opened, query: &Query) -> Option<u64>
     requires opened { IsOpened opened.now }
     requires free { param_in_query query.now ≡ 0 }
 {
-    let typed = match typed(alloc, opened, query) {
-        Ok(typed) => typed,
-        Err(TypeRefused::Ill(_why)) => return Ok(false),
-        Err(_) => return Err("too wide, or no memory".into()),
-    };
-    let made = made(alloc, opened, &typed)?;
-    let answer = answer(alloc, opened, &typed)?;
-    mean_query(rt, alloc, opened, query, &[&made, answer.table()])?;
-    Ok(true)
+    match typed(alloc, opened, query) {
+        Ok(typed) => compared_typed(alloc, opened, query, &typed),
+        Err(TypeRefused::Ill(_why)) => Some(0),
+        Err(_) => None,
+    }
 }
 
-/// The tables are what the configured query means, in each admitted variant.
-fn mean_query(
-    rt: &impl Abort,
-    alloc: Global,
-    opened: &Opened,
-    query: &Query,
-    tables: &[&VTable],
-) -> Result<(), Fail> {
-    for config in admitted(alloc, &opened.catalog)? {
-        let variant = Variant {
-            alloc,
-            catalog: &opened.catalog,
-            rows: &opened.rows,
-            kinds: &PARAMETER_KINDS,
-            config,
-        };
-        let wanted = variant.meaning(query)?;
-        for table in tables {
-            let found = configured(alloc, table, &config)?;
-            assert!(rt; found.is_same(&wanted));
+fn compared_typed(alloc: Global, opened: &Opened, query: &Query, typed: &Typed) -> Option<u64>
+    requires { CanAnswer opened.now.model opened.now.stored.tables typed.now }
+{
+    let made = made(alloc, opened, typed).ok()?;
+    let answer = answer(alloc, opened, typed).ok()?;
+    if are_meant(alloc, opened, query, &[&made, answer.table()])? {
+        Some(1)
+    } else {
+        None
+    }
+}
+
+/// Whether the tables are what the configured query means, in each admitted variant.
+fn are_meant(alloc: Global, opened: &Opened, query: &Query, tables: &[&VTable]) -> Option<bool> {
+    for config in admitted(alloc, &opened.catalog).ok()? {
+        let wanted = meaning(alloc, opened, query, config)?;
+        if !are_same(alloc, tables, &wanted, &config)? {
+            return Some(false);
         }
     }
-    Ok(())
+    Some(true)
+}
+
+fn meaning(alloc: Global, opened: &Opened, query: &Query, config: Config) -> Option<Relation> {
+    let variant = Variant {
+        alloc,
+        catalog: &opened.catalog,
+        rows: &opened.rows,
+        kinds: &PARAMETER_KINDS,
+        config,
+    };
+    variant.meaning(query).ok()
+}
+
+fn are_same(alloc: Global, tables: &[&VTable], wanted: &Relation, config: &Config) -> Option<bool> {
+    for table in tables {
+        if !configured(alloc, table, config)?.is_same(wanted) {
+            return Some(false);
+        }
+    }
+    Some(true)
 }
