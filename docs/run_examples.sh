@@ -19,6 +19,7 @@ python3 "$top/docs/run_examples.py" "$top" "$program" || status=1
 python3 -B "$top/docs/run_answers.py" "$top" "$program" || status=1
 python3 -B "$top/docs/run_language.py" "$top" "$program" || status=1
 python3 -B "$top/docs/run_queries.py" "$top" "$program" || status=1
+python3 -B "$top/docs/run_transactions.py" "$top" "$program" || status=1
 python3 -B "$top/docs/run_plain.py" "$top" "$program" || status=1
 python3 -B "$top/docs/run_demo.py" "$top" "$program" || status=1
 python3 -B "$top/docs/run_page.py" "$top" "$program" || status=1

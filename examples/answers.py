@@ -10,10 +10,11 @@ CONNECTIVES = {"and": "and", "or": "or", "not": "not", "true": "True", "false": 
 
 
 class Answer:
-    """What one Query gave: fields and rows, or an error."""
+    """What one Query gave: fields and rows, or an error; and the place of its commit, where it has one."""
 
     def __init__(self):
         self.snapshot = None
+        self.commit = None
         self.fields = []  # name and kind; the last one is `when`
         self.rows = []  # a text or None for each field; the last cell is the row's condition
         self.tag = None
@@ -73,7 +74,9 @@ def read_reply(reply):
     for kind, body in messages(reply):
         if kind == b"S":
             name, value = body.decode().split("\0")[:2]
-            if started:
+            if started and name == "vdb_commit":
+                answer.commit = value
+            elif started:
                 answer.snapshot = value
             else:
                 parameters.append((name, value))
@@ -145,6 +148,8 @@ def answer_lines(answer):
     """An answer as the messages have it: its fields with their kinds, its rows and its tag; or its error."""
     if answer.error:
         return [answer.error]
+    if not answer.fields:
+        return [*([f"commit {answer.commit}"] if answer.commit else []), answer.tag or "(no statement)"]
     kinds = [kind for _, kind in answer.fields]
     heads = [named(field)[0] for field, _ in answer.fields]
     width = max(len(field) for field, _ in answer.fields)
@@ -153,7 +158,9 @@ def answer_lines(answer):
 
 
 def variant_lines(answer, variant):
-    """An answer's table in one variant."""
+    """An answer's table in one variant. A statement without rows says the same in each."""
+    if not answer.fields:
+        return answer_lines(answer)
     table = configured(answer, variant)
     return list(lines_of(*table)) if table else ["(absent)"]
 

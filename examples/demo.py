@@ -14,7 +14,7 @@ TOP = os.path.dirname(os.path.dirname(os.path.abspath(__file__)))
 PROGRAM = os.path.join(TOP, "crates", "vdb_server", "out", "vdb_server")
 USAGE = """usage:
   ./demo                                   asks some questions of two product lines in examples/
-  ./demo FILE QUERY..                      asks queries over a catalogue; a table's name is one
+  ./demo FILE QUERY..                      asks queries over a catalogue, and writes; a table's name is a query
   ./demo --variant A,B FILE QUERY..        shows what the variant with these features sees; `none` has none
   ./demo --page OUT.html FILE QUERY        writes a page on which the features can be switched
   ./demo check FILE                        says whether a catalogue can be used, or what is wrong with it"""
@@ -27,6 +27,9 @@ EMAIL = "examples/email.vdb", "An e-mail client in many variants", [
     ("A query that some variant can't answer is refused, and the variant is shown.",
      "select subject from message where folder = 1"),
     ("A choice guards it.", "select subject from message where choice [filters] (folder = 1, true)"),
+    ("A message is put into another folder, in the clients that have folders: one write and one commit for all of them.",
+     "update message set folder = 2 where id = 1 when filters"),
+    ("Since then it is", "select id, folder from message where id = 1"),
 ]
 PAYROLL = "examples/payroll.vdb", "A payroll over five releases, whose tables changed with each", [
     ("Who has which title? The tables were split and joined again; the answer is the same in every release.",

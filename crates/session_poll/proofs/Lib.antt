@@ -1,14 +1,14 @@
-mod AnswerLaws
 mod BeginLaws
+mod CommitLaws
 mod CourseLaws
-mod FixedLaws
 mod MoveLaws
-mod ParamLaws
 mod PollLaws
 mod QueryLaws
-mod RunLaws
+pub mod RunLaws
 mod SessionLaws
 mod ShowLaws
 mod StartLaws
 mod StartTextLaws
+mod StatementLaws
 mod UnreadLaws
+mod WriteLaws

@@ -1,10 +1,10 @@
 -- The calls of a session beside its polls.
 use Rattle.std.proofs.Common.{◌≡◌, ◌∙◌, ℕ, zero, suc, min, List, [], ◌∷◌, ◌++◌, length, take, drop, refl, sym, ap, subst, append_assoc, take-append-drop, arith}
-use Rattle.session_poll.specs.declared.opening.Opening.{Opening}
 use Rattle.session_poll.specs.declared.session.Session.{Session}
-use Rattle.session_poll.specs.Runs.{Did, bytes_read, HasSnapshot, IsAt}
+use Rattle.session_poll.specs.Runs.{Did, bytes_read, IsAt}
 use Rattle.session_poll.specs.Session.{state_of, held_of, waiting_of}
 use Rattle.session_poll.specs.State.{State, opening_state}
+use Rattle.stored_versions.specs.Openings.{Opening}
 
 pub at_start : (session : Session) → state_of session ≡ opening_state → held_of session ≡ [] → waiting_of session ≡ [] → (opening : Opening) → IsAt opening [] [] [] session
 at_start session state held waiting opening = record {
@@ -12,8 +12,6 @@ at_start session state held waiting opening = record {
   state = state;
   input = sym held;
   output = sym waiting;
-  fit = tt;
-  snapshot = subst (HasSnapshot 0) (sym (ap (λ (s : State). s.transaction) state)) tt;
 }
 
 pub at_fed : (old new : Session) (bytes : List ℕ) → state_of new ≡ state_of old → waiting_of new ≡ waiting_of old → held_of new ≡ held_of old ++ bytes → (opening : Opening) (fed taken : List ℕ) (run : List Did) → IsAt opening fed taken run old → IsAt opening (fed ++ bytes) taken run new
@@ -22,8 +20,6 @@ at_fed old new bytes state waiting held opening fed taken run is = record {
   state = state ∙ is.state;
   input = ap (λ (f : List ℕ). f ++ bytes) is.input ∙ append_assoc (bytes_read run) (held_of old) bytes ∙ ap (λ (h : List ℕ). bytes_read run ++ h) (sym held);
   output = is.output ∙ ap (λ (w : List ℕ). taken ++ w) (sym waiting);
-  fit = is.fit;
-  snapshot = subst (HasSnapshot 0) (sym (ap (λ (s : State). s.transaction) state)) is.snapshot;
 }
 
 pub at_ended : (old new : Session) → state_of new ≡ state_of old → waiting_of new ≡ waiting_of old → held_of new ≡ held_of old → (opening : Opening) (fed taken : List ℕ) (run : List Did) → IsAt opening fed taken run old → IsAt opening fed taken run new
@@ -32,8 +28,6 @@ at_ended old new state waiting held opening fed taken run is = record {
   state = state ∙ is.state;
   input = is.input ∙ ap (λ (h : List ℕ). bytes_read run ++ h) (sym held);
   output = is.output ∙ ap (λ (w : List ℕ). taken ++ w) (sym waiting);
-  fit = is.fit;
-  snapshot = subst (HasSnapshot 0) (sym (ap (λ (s : State). s.transaction) state)) is.snapshot;
 }
 
 take_min : (count : ℕ) (bytes : List ℕ) → take (min count (length bytes)) bytes ≡ take count bytes
@@ -55,6 +49,4 @@ at_taken old new count state held waiting opening fed taken run is =
           ∙ sym (append_assoc taken (take most (waiting_of old)) (drop most (waiting_of old)))
           ∙ ap (λ (t : List ℕ). (taken ++ t) ++ drop most (waiting_of old)) (take_min count (waiting_of old))
           ∙ ap (λ (w : List ℕ). (taken ++ take count (waiting_of old)) ++ w) (sym waiting);
-      fit = is.fit;
-      snapshot = subst (HasSnapshot 0) (sym (ap (λ (s : State). s.transaction) state)) is.snapshot;
     }

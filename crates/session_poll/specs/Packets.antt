@@ -40,5 +40,5 @@ IsReadAs phases.Ready (Message message) bytes = IsFront message bytes
 IsReadAs phases.Ready Unread bytes = IsQuery bytes
 IsReadAs phases.Ready Bad bytes = is_bad (front_of bytes) ≡ true
 IsReadAs (phases.Statements first left) Next bytes = bytes ≡ []
-IsReadAs (phases.Query complete) Next bytes = bytes ≡ []
+IsReadAs (phases.Query tag) Next bytes = bytes ≡ []
 IsReadAs phase input bytes = ⊥

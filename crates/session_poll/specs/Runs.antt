@@ -1,13 +1,14 @@
 -- The run of a session: its steps, from the state before the first packet.
-use Rattle.std.specs.Prelude.{◌≡◌, ℕ, ◌≤◌, List, [], ◌∷◌, ◌++◌}
-use Rattle.session_poll.specs.declared.opening.Opening.{Opening}
-use Rattle.session_poll.specs.declared.session.Session.{Session}
-use Rattle.session_poll.specs.Courses.{Course, Event, Begun, Viewed, Input}
+use Rattle.std.specs.Prelude.{◌≡◌, ℕ, List, [], ◌∷◌, ◌++◌}
+use Rattle.session_poll.specs.Courses.{Course, Input}
 use Rattle.session_poll.specs.Packets.{IsReadAs}
-use Rattle.session_replies.specs.Replies.{spelled}
 use Rattle.session_poll.specs.Session.{state_of, held_of, owed_of}
-use Rattle.session_poll.specs.State.{State, Transaction, Idle, Implicit, opening_state}
+use Rattle.session_poll.specs.State.{State, opening_state}
 use Rattle.session_poll.specs.Steps.{Step}
+use Rattle.session_poll.specs.declared.session.Session.{Session}
+use Rattle.session_replies.specs.Replies.{spelled}
+use Rattle.store_events.specs.Events.{Event}
+use Rattle.stored_versions.specs.Openings.{Opening}
 
 -- a step that was taken: its input, the bytes of that, and its course
 pub record Did : Type 0 where
@@ -18,7 +19,7 @@ pub record Did : Type 0 where
 abbrev pub IsRunFrom : Opening → State → List Did → Type 0
 IsRunFrom opening old [] = Unit {0}
 IsRunFrom opening old (did ∷ dids) =
-    Step opening old.phase did.input old did.course × IsReadAs old.phase did.input did.bytes × IsRunFrom opening did.course.after dids
+    Step old.phase did.input opening old did.course × IsReadAs old.phase did.input did.bytes × IsRunFrom opening did.course.after dids
 
 abbrev pub end_from : State → List Did → State
 end_from old [] = old
@@ -34,23 +35,10 @@ abbrev pub replied : List Did → List ℕ
 replied [] = []
 replied (did ∷ dids) = spelled did.course.replies ++ replied dids
 
+-- what the store answered in them, in order
 abbrev pub events_of : List Did → List Event
 events_of [] = []
 events_of (did ∷ dids) = did.course.events ++ events_of dids
-
--- an event fits a log of so many commits
-abbrev pub Fits : ℕ → Event → Type 0
-Fits log (Begun snapshot) = snapshot ≤ log
-Fits log (Viewed snapshot) = snapshot ≤ log
-
-abbrev pub AllFit : ℕ → List Event → Type 0
-AllFit log [] = Unit {0}
-AllFit log (event ∷ events) = Fits log event × AllFit log events
-
--- the snapshot of an open transaction is one of a log of so many commits
-abbrev pub HasSnapshot : ℕ → Transaction → Type 0
-HasSnapshot log Idle = Unit {0}
-HasSnapshot log (Implicit snapshot) = snapshot ≤ log
 
 abbrev pub IsRun : Opening → List Did → Type 0
 IsRun opening run = IsRunFrom opening opening_state run
@@ -59,11 +47,9 @@ abbrev pub end_of : List Did → State
 end_of run = end_from opening_state run
 
 -- A session that was fed these bytes, and of whose output these were taken, stands at the end of this run: what the run
--- took and what is held make up what was fed, and its replies are what was taken and what is owed. The log is empty.
+-- took and what is held make up what was fed, and its replies are what was taken and what is owed.
 pub record IsAt (opening : Opening) (fed taken : List ℕ) (run : List Did) (session : Session) : Type 0 where
   pub is_run : IsRun opening run
   pub state : state_of session ≡ end_of run
   pub input : fed ≡ bytes_read run ++ held_of session
   pub output : replied run ≡ taken ++ owed_of session
-  pub fit : AllFit 0 (events_of run)
-  pub snapshot : HasSnapshot 0 (state_of session).transaction

@@ -1,8 +1,9 @@
 -- What a session shows: its state, the bytes that it was fed and has not taken, those that wait to be sent, and whether
 -- the input has ended.
 use Rattle.std.specs.Prelude.{ℕ, Bool, List}
+use Rattle.session_poll.specs.State.{State}
 use Rattle.session_poll.specs.declared.session.Session.{Session}
-use Rattle.session_poll.specs.State.{State, transaction_of}
+use Rattle.session_transactions.specs.Transactions.{transaction_of}
 
 abbrev pub state_of : Session → State
 state_of session = record { phase = session.phase; transaction = transaction_of session.transaction }

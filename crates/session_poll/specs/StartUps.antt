@@ -9,7 +9,8 @@ use Rattle.pg_messages.specs.declared.back.Status.{Status}
 use Rattle.pg_messages.specs.declared.startup.Pair.{Pair}
 use Rattle.pg_messages.specs.declared.startup.Startup.{Startup}
 use Rattle.pg_messages.specs.declared.startup.Startup.TheVariants as startup
-use Rattle.session_poll.specs.declared.opening.Opening.{Opening}
+use Rattle.stored_versions.specs.Openings.{Opening}
+use Rattle.vschema.specs.declared.catalog.Catalog.{Catalog}
 use Rattle.session_poll.specs.declared.state.Phase.TheVariants as phases
 use Rattle.session_poll.specs.Courses.{Course, goes}
 use Rattle.session_poll.specs.Errors.{Rejects}
@@ -66,17 +67,17 @@ fixed_parameters =
 
 -- what a client is told at the start: the parameters, among them the catalogue's features and model, and the key of the
 -- session
-abbrev pub welcome : Opening → Status → List Back
-welcome opening status =
+abbrev pub welcome : Catalog → Status → List Back
+welcome catalog status =
     fixed_parameters ++
-    back.ParameterStatus (codes "vdb_features") (with_commas opening.catalog.features) ∷
-    back.ParameterStatus (codes "vdb_model") (text_of opening.catalog.features opening.catalog.model) ∷
+    back.ParameterStatus (codes "vdb_features") (with_commas catalog.features) ∷
+    back.ParameterStatus (codes "vdb_model") (text_of catalog.features catalog.model) ∷
     back.BackendKeyData 1 0 ∷
     back.ReadyForQuery status ∷ []
 
 abbrev pub Welcomes : Opening → State → Course → Type 0
 Welcomes opening old c =
-    (c ≡ goes [] (welcome opening (status_of old.transaction)) (in_phase phases.Ready old)) ⊎ (c ≡ goes [] (out_of_memory ∷ []) old)
+    (c ≡ goes [] (welcome opening.catalog (status_of old.transaction)) (in_phase phases.Ready old)) ⊎ (c ≡ goes [] (out_of_memory ∷ []) old)
 
-abbrev pub StartsUp : Opening → Startup → State → Course → Type 0
-StartsUp opening packet old c = MatchBool (is_taken packet) (Welcomes opening old c) (Rejects old c)
+abbrev pub StartsUp : Startup → Opening → State → Course → Type 0
+StartsUp packet opening old c = MatchBool (is_taken packet) (Welcomes opening old c) (Rejects opening old c)

@@ -1,6 +1,7 @@
--- What a query is typed as.
-use Rattle.std.specs.Prelude.{List, [], Result, Ok, Err}
+-- What a query is typed as, and whether a write is well typed.
+use Rattle.std.specs.Prelude.{List, [], Option, Some, None, Result, Ok, Err}
 use Rattle.query_meaning.specs.Typing.{IsTyped, Refuses}
+use Rattle.query_meaning.specs.WriteTyping.{IsWellTypedWrite, RefusesWrite}
 use Rattle.query_meaning.specs.declared.ill.TypeRefused.{TypeRefused}
 use Rattle.query_meaning.specs.declared.ill.TypeRefused.TheVariants as refused
 use Rattle.query_meaning.specs.declared.plan.Plan.{Plan}
@@ -8,6 +9,7 @@ use Rattle.query_meaning.specs.declared.typed.TypedColumn.{TypedColumn}
 use Rattle.session_replies.specs.declared.refusal.Refusal.{Refusal}
 use Rattle.session_replies.specs.declared.refusal.Refusal.TheVariants as refusal
 use Rattle.vra_syntax.specs.declared.query.Query.{Query}
+use Rattle.vra_syntax.specs.declared.write.Write.{Write}
 use Rattle.vschema.specs.declared.catalog.Catalog.{Catalog}
 
 -- a query without parameters has this type
@@ -25,7 +27,13 @@ Types catalog query (Ok columns) = AreColumns catalog query columns
 Types catalog query (Err refused.Memory) = ⊥
 Types catalog query (Err why) = Refuses catalog.model [] catalog.tables query why
 
--- why a query that has no type is refused
+-- The same of a write without parameters: it is well typed where nothing is found against it.
+abbrev pub TypesWrite : Catalog → Write → Option TypeRefused → Type 0
+TypesWrite catalog it None = IsWellTypedWrite catalog.model [] catalog.tables it
+TypesWrite catalog it (Some refused.Memory) = ⊥
+TypesWrite catalog it (Some why) = RefusesWrite catalog.model [] catalog.tables it why
+
+-- why a statement that has no type is refused
 abbrev pub refusal_for : TypeRefused → Refusal
 refusal_for refused.Memory = refusal.OutOfMemory
 refusal_for why = refusal.Untyped why
@@ -35,3 +43,9 @@ abbrev pub IsUnanswered : Catalog → Query → Refusal → Type 0
 IsUnanswered catalog query refusal.OutOfMemory = Unit {0}
 IsUnanswered catalog query (refusal.Untyped why) = Types catalog query (Err why)
 IsUnanswered catalog query why = ⊥
+
+-- a write has no type, or memory ran out
+abbrev pub IsUnwritten : Catalog → Write → Refusal → Type 0
+IsUnwritten catalog it refusal.OutOfMemory = Unit {0}
+IsUnwritten catalog it (refusal.Untyped why) = TypesWrite catalog it (Some why)
+IsUnwritten catalog it why = ⊥

@@ -1,10 +1,11 @@
-//! One client's session: the bytes that it is fed, the steps that it takes, and the bytes that it has for the client.
+//! One client's session over a store: the bytes that it is fed, the steps that it takes, and the bytes that it has for the
+//! client.
 #![tactic(auto)]
 
 mod begin;
-mod fixed;
+mod commit;
 mod inbox;
-mod opening;
+mod left;
 mod poll;
 mod polled;
 mod queries;
@@ -12,7 +13,8 @@ mod session;
 mod show;
 mod start_up;
 mod state;
+mod statements;
+mod write;
 
-pub use opening::Opening;
 pub use polled::Polled;
 pub use session::Session;

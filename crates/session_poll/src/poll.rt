@@ -1,70 +1,71 @@
 //! A poll: none or one step of the session machine.
 
-ghost use Rattle.std.specs.Prelude.{◌≡◌, ◌≤◌, true, false, length, take, is_some, IfOk, OnErr};
+ghost use Rattle.std.specs.Prelude.{◌≡◌, ◌≤◌, ◌++◌, true, false, not, length, take, drop, is_some, min, IfOk, IfSome, OnErr};
 ghost use Rattle.pg_messages.specs.Front.{front_head, front_of};
 ghost use Rattle.pg_messages.specs.Front.{IsFront};
 ghost use Rattle.pg_messages.specs.Packet.{Answers, IfWhole, IfMemory, length_of};
 ghost use Rattle.pg_messages.specs.Startup.{startup_head, startup_of};
 ghost use Rattle.pg_messages.specs.Startup.{IsStartup};
-ghost use Rattle.session_replies.specs.declared.output.TheConstants.{KEPT_ROOM, STEP_ROOM};
 ghost use Rattle.session_poll.specs.declared.state.Phase.TheVariants as phases;
 ghost use Rattle.session_poll.specs.Parts.{BeginsStartup, BeginsQuery, Drops, Skips, Moves, Takes, WantsMemory};
 ghost use Rattle.session_poll.specs.Polls.{Polls};
-ghost use Rattle.session_poll.specs.Servable.{IsServable};
 ghost use Rattle.session_poll.specs.Session.{held_of};
+ghost use Rattle.session_poll.specs.Rooms.{HasStepRoom};
 ghost use Rattle.session_poll.specs.Steps.{Handles};
+ghost use Rattle.session_transactions.specs.Goings.{FitsStore};
 
-use crate::opening::Opening;
 use crate::polled::Polled;
 use crate::session::Session;
 use crate::state::Phase;
+use commit_log::Keeper;
 use feature_expr::Memory;
 use pg_messages::{
     Decoded, Front, Startup, decode_front, decode_startup, front_length, startup_length,
 };
+use snapshot_store::Store;
 use std::alloc::Global;
 
 impl Session {
     /// Takes at most one packet, one more statement of a Query or a Query's end, and says how the session stands then.
     #[tactic(auto, using(crate::proofs::PollLaws::polls_moved, crate::proofs::PollLaws::polls_full))]
-    pub fn poll(&mut self, opening: &Opening) -> Polled
-        requires { IsServable opening.now }
-        ensures { Polls opening.now self.old result self.new }
+    pub fn poll<K: Keeper>(&mut self, store: &mut Store<K>) -> Polled
+        requires { FitsStore self.old.transaction store.old }
+        ensures { Polls self.old store.old result self.new store.new }
     {
-        match self.move_on(opening) {
+        match self.move_on(store) {
             Ok(_has_moved) => self.standing(),
             Err(Memory) => Polled::NeedOutput,
         }
     }
 
-    /// Makes room for a reply of fixed bytes, and takes a step if there is one to take.
+    /// Makes room for the replies of a step, and takes one if there is one to take.
     #[tactic(auto, using(crate::proofs::PollLaws::moves_from, crate::proofs::PollLaws::wants_memory))]
-    fn move_on(&mut self, opening: &Opening) -> Result<bool, Memory>
-        requires { IsServable opening.now }
-        ensures ok { IfOk result (λ has_moved. Moves opening.now self.old has_moved self.new) }
-        ensures err { OnErr result (WantsMemory self.old self.new) }
+    fn move_on<K: Keeper>(&mut self, store: &mut Store<K>) -> Result<bool, Memory>
+        requires { FitsStore self.old.transaction store.old }
+        ensures ok { IfOk result (λ has_moved. Moves self.old store.old has_moved self.new store.new) }
+        ensures err { OnErr result (WantsMemory self.old store.old self.new store.new) }
     {
         self.output.make_room()?;
-        let has_moved = self.step(opening);
+        let has_moved = self.step(store);
         Ok(has_moved)
     }
 
     /// Takes a step if there is one to take.
     #[tactic(auto, using(crate::proofs::MoveLaws::gone_on, crate::proofs::MoveLaws::query_ended, crate::proofs::MoveLaws::idle_ended))]
-    fn step(&mut self, opening: &Opening) -> bool
-        requires ready { STEP_ROOM ≤ self.old.output.spare }
-        requires servable { IsServable opening.now }
-        ensures { Moves opening.now self.old result self.new }
+    fn step<K: Keeper>(&mut self, store: &mut Store<K>) -> bool
+        requires fits { FitsStore self.old.transaction store.old }
+        requires room { HasStepRoom self.old }
+        ensures { Moves self.old store.old result self.new store.new }
     {
         match &self.phase {
-            Phase::Start => self.take_startup(opening),
-            Phase::Ready => self.take_message(opening),
+            Phase::Start => self.take_startup(store),
+            Phase::Ready => self.take_message(store),
             Phase::Statements(_, _) => {
-                self.go_on(opening);
+                self.go_on(store);
                 true
             }
             Phase::Query(_) => {
-                self.end_query();
+                self.end_query(store);
                 true
             }
             Phase::Ended => false,
@@ -72,67 +73,68 @@ impl Session {
     }
 
     #[tactic(auto, using(crate::proofs::MoveLaws::started, crate::proofs::MoveLaws::start_bad, crate::proofs::MoveLaws::start_unread, crate::proofs::MoveLaws::start_idle))]
-    fn take_startup(&mut self, opening: &Opening) -> bool
-        requires ready { KEPT_ROOM ≤ self.old.output.spare }
-        requires servable { IsServable opening.now }
+    fn take_startup<K: Keeper>(&mut self, store: &mut Store<K>) -> bool
+        requires fits { FitsStore self.old.transaction store.old }
+        requires room { HasStepRoom self.old }
         requires phase { self.old.phase ≡ phases.Start }
-        ensures { Moves opening.now self.old result self.new }
+        ensures { Moves self.old store.old result self.new store.new }
     {
         match self.next_startup() {
             Decoded::Whole(packet, count) => {
                 self.discard(count);
-                self.start_up(&packet, opening);
+                self.start_up(&packet, store);
                 true
             }
             Decoded::More => false,
             Decoded::Bad(_place, _why) => {
                 self.discard_all();
-                self.reject();
+                self.reject(store);
                 true
             }
             Decoded::Memory => {
                 self.skip_startup();
-                self.refuse_start();
+                self.refuse_start(store);
                 true
             }
         }
     }
 
     #[tactic(auto, using(crate::proofs::MoveLaws::handled, crate::proofs::MoveLaws::message_bad, crate::proofs::MoveLaws::message_unread, crate::proofs::MoveLaws::message_idle))]
-    fn take_message(&mut self, opening: &Opening) -> bool
-        requires ready { KEPT_ROOM ≤ self.old.output.spare }
-        requires servable { IsServable opening.now }
+    fn take_message<K: Keeper>(&mut self, store: &mut Store<K>) -> bool
+        requires fits { FitsStore self.old.transaction store.old }
+        requires room { HasStepRoom self.old }
         requires phase { self.old.phase ≡ phases.Ready }
-        ensures { Moves opening.now self.old result self.new }
+        ensures { Moves self.old store.old result self.new store.new }
     {
         match self.next_front() {
             Decoded::Whole(message, count) => {
                 self.discard(count);
-                self.handle(&message, opening);
+                self.handle(&message, store);
                 true
             }
             Decoded::More => false,
             Decoded::Bad(_place, _why) => {
                 self.discard_all();
-                self.reject();
+                self.reject(store);
                 true
             }
             Decoded::Memory => {
                 self.skip_message();
-                self.run_out();
+                self.run_out(store);
                 true
             }
         }
     }
 
-    fn handle(&mut self, message: &Front, opening: &Opening)
-        requires ready { KEPT_ROOM ≤ self.old.output.spare }
-        requires servable { IsServable opening.now }
-        ensures { Takes (Handles opening.now message.now) self.old self.new }
+    #[tactic(auto, using(crate::proofs::QueryLaws::handles_query, crate::proofs::QueryLaws::handles_terminate))]
+    fn handle<K: Keeper>(&mut self, message: &Front, store: &mut Store<K>)
+        requires fits { FitsStore self.old.transaction store.old }
+        requires room { HasStepRoom self.old }
+        ensures { Takes (Handles message.now) self.old store.old self.new store.new }
     {
         match message {
-            Front::Query(text) => self.query(text, &opening.catalog.features),
-            Front::Terminate => self.end(),
+            Front::Query(text) => self.query(text, store),
+            Front::Terminate => self.terminate(store),
         }
     }
 

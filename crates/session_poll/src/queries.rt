@@ -1,65 +1,70 @@
 //! The query rule.
 
-ghost use Rattle.std.specs.Prelude.{◌≤◌, ◌≡◌, ◌++◌, [], ◌∷◌, false, None, List as Items, OnOk, OnErr, MatchOption};
+ghost use Rattle.std.specs.Prelude.{IfSome, ◌≡◌, ◌++◌, [], ◌∷◌, ◌≤◌, true, None, Some, Option, List as Items};
 ghost use Rattle.pg_messages.specs.declared.back.Back.{Back};
-ghost use Rattle.session_replies.specs.declared.output.TheConstants.{KEPT_ROOM, STEP_ROOM};
 ghost use Rattle.session_poll.specs.Errors.{Rejects, Runs};
-ghost use Rattle.session_poll.specs.Parts.{Done, Takes, Told, ToldEnd, Failed, KeepsState, IsReady, IsEnded, IsTaken};
-ghost use Rattle.session_poll.specs.Queries.{AnswersQuery, AnswersStatements, Completes, Queries, Readies, RunsStatement, RunsOut, EndsQuery, IsTextRead, query_of};
-ghost use Rattle.session_replies.specs.Replies.{spelled, empty_query};
-ghost use Rattle.session_poll.specs.Servable.{IsServable};
-ghost use Rattle.session_poll.specs.State.{in_phase};
+ghost use Rattle.session_poll.specs.Parts.{Done, Failed, GoesPast, IsEnded, IsReady, IsTaken, KeepsState, Takes};
+ghost use Rattle.session_poll.specs.Queries.{AnswersStatements, Completes, EndsQuery, EndsWith, IsTextRead, Queries, RunsOut, RunsStatement, last_of};
+ghost use Rattle.session_poll.specs.State.{in_phase, status_of};
+ghost use Rattle.session_poll.specs.Steps.{Terminates};
 ghost use Rattle.session_poll.specs.declared.state.Phase.TheVariants as phases;
+ghost use Rattle.session_poll.specs.Rooms.{HasErrorRoom, HasStatementRoom, HasStepRoom, HasTagRoom};
+ghost use Rattle.session_replies.specs.declared.tag.Tag.{Tag as OneTag};
+ghost use Rattle.session_transactions.specs.Goings.{FitsStore};
+ghost use Rattle.session_transactions.specs.Transactions.{transaction_of};
+ghost use Rattle.stored_versions.specs.Openings.{Opening};
 
-use crate::fixed::{EMPTY_AND_READY, NOT_BUILT, OUT_OF_MEMORY_AND_READY, READY};
-use crate::opening::Opening;
+use crate::left::Left;
 use crate::session::Session;
-use crate::state::{Phase, Transaction};
-use feature_expr::{Features, List, Memory, Text};
+use crate::state::Phase;
+use commit_log::Keeper;
+use feature_expr::{Features, List, Text};
 use pg_messages::Status;
 use query_parser::parse;
-use session_replies::Refusal;
+use session_replies::{Refusal, Tag};
+use session_transactions::Transaction;
+use snapshot_store::Store;
 use std::alloc::Global;
-use std::collections::VecDeque;
-use std::marker::Model;
 use std::{mem, str};
-use vra_syntax::{Query, Statement};
+use vra_syntax::Statement;
 
 impl Session {
     /// Reads the text of a Query, whose statements are left to be run.
     #[tactic(auto, using(crate::proofs::QueryLaws::query_read, crate::proofs::QueryLaws::query_refused))]
-    pub(crate) fn query(&mut self, text: &Text, features: &Features)
-        requires { KEPT_ROOM ≤ self.old.output.spare }
-        ensures { Takes (Queries features.now text.now) self.old self.new }
+    pub(crate) fn query<K: Keeper>(&mut self, text: &Text, store: &mut Store<K>)
+        requires fits { FitsStore self.old.transaction store.old }
+        requires room { HasStepRoom self.old }
+        ensures { Takes (Queries text.now) self.old store.old self.new store.new }
     {
-        match read(self.alloc, text.as_slice(), features) {
-            Ok(statements) => self.leave(statements),
-            Err(why) => self.fail(&why, features),
+        match read(self.alloc, text.as_slice(), &store.catalog().features) {
+            Ok(statements) => self.leave(statements, store),
+            Err(why) => self.fail(&why, store),
         }
     }
 
     /// Leaves these statements to be run. Where there is none, that is told.
     #[tactic(auto, using(crate::proofs::QueryLaws::leaves, crate::proofs::QueryLaws::leaves_none))]
-    fn leave(&mut self, statements: List<Statement>)
-        requires { KEPT_ROOM ≤ self.old.output.spare }
-        ensures { Takes (AnswersStatements statements) self.old self.new }
+    fn leave<K: Keeper>(&mut self, statements: List<Statement>, store: &mut Store<K>)
+        requires fits { FitsStore self.old.transaction store.old }
+        requires room { HasStepRoom self.old }
+        ensures { Takes (AnswersStatements statements) self.old store.old self.new store.new }
     {
         let mut left = Left::new(statements);
         match left.next() {
             Some(first) => self.phase = Phase::Statements(first, left),
-            None => self.say_empty(),
+            None => self.end_with(None, store),
         }
     }
 
     /// Goes on with the next statement of a Query.
-    #[tactic(auto, using(crate::proofs::QueryLaws::goes_on))]
-    pub(crate) fn go_on(&mut self, opening: &Opening)
-        requires ready { STEP_ROOM ≤ self.old.output.spare }
-        requires servable { IsServable opening.now }
-        ensures { (first : Statement) (left : Items Statement) → self.old.phase ≡ phases.Statements first left → Takes (λ old c. RunsStatement opening.now first left (in_phase phases.Ready old) c) self.old self.new }
+    #[tactic(auto, using(crate::proofs::QueryLaws::goes_on_with))]
+    pub(crate) fn go_on<K: Keeper>(&mut self, store: &mut Store<K>)
+        requires fits { FitsStore self.old.transaction store.old }
+        requires room { HasStepRoom self.old }
+        ensures { (first : Statement) (left : Items Statement) → self.old.phase ≡ phases.Statements first left → Takes (λ opening old c. RunsStatement first left opening (in_phase phases.Ready old) c) self.old store.old self.new store.new }
     {
         if let Phase::Statements(first, left) = self.take_phase() {
-            self.run_statement(first, left, opening);
+            self.run_statement(first, left, store);
         }
     }
 
@@ -71,174 +76,155 @@ impl Session {
     }
 
     /// Runs a statement behind which these are left.
-    #[tactic(auto, using(crate::proofs::QueryLaws::runs_query, crate::proofs::QueryLaws::runs_other))]
-    fn run_statement(&mut self, statement: Statement, left: Left, opening: &Opening)
-        requires ready { STEP_ROOM ≤ self.old.output.spare }
-        requires servable { IsServable opening.now }
-        ensures { Takes (RunsStatement opening.now statement left) self.old self.new }
-    {
-        match into_query(statement) {
-            Some(query) => self.run(&query, left, opening),
-            None => self.reject(),
-        }
-    }
-
     #[tactic(auto, using(crate::proofs::QueryLaws::runs_through, crate::proofs::QueryLaws::runs_failed))]
-    fn run(&mut self, query: &Query, left: Left, opening: &Opening)
-        requires ready { STEP_ROOM ≤ self.old.output.spare }
-        requires servable { IsServable opening.now }
-        ensures { Takes (Runs opening.now.catalog.features (Completes (AnswersQuery opening.now query.now) left)) self.old self.new }
+    fn run_statement<K: Keeper>(&mut self, first: Statement, left: Left, store: &mut Store<K>)
+        requires fits { FitsStore self.old.transaction store.old }
+        requires room { HasStepRoom self.old }
+        ensures { Takes (Runs (Completes first left)) self.old store.old self.new store.new }
     {
-        if let Some(why) = self.answer_and_go_on(query, left, opening) {
-            self.fail(&why, &opening.catalog.features);
+        if let Some(why) = self.complete(first, left, store) {
+            self.fail(&why, store);
         }
     }
 
     #[tactic(auto, using(crate::proofs::QueryLaws::completes, crate::proofs::QueryLaws::completes_not))]
-    fn answer_and_go_on(&mut self, query: &Query, left: Left, opening: &Opening) -> Option<Refusal>
-        requires ready { STEP_ROOM ≤ self.old.output.spare }
-        requires servable { IsServable opening.now }
-        ensures { Done (Completes (AnswersQuery opening.now query.now) left) self.old result self.new }
+    fn complete<K: Keeper>(
+        &mut self,
+        first: Statement,
+        left: Left,
+        store: &mut Store<K>,
+    ) -> Option<Refusal>
+        requires fits { FitsStore self.old.transaction store.old }
+        requires room { HasStepRoom self.old }
+        ensures done { Done (Completes first left) self.old store.old result self.new store.new }
+        ensures room { IfSome result (λ why. HasErrorRoom self.new) }
     {
-        match self.answer(query, opening) {
-            Ok(message) => self.go_past(message, left),
+        match self.run(first, store) {
+            Ok(tag) => {
+                self.go_past(tag, left);
+                None
+            }
             Err(why) => Some(why),
         }
     }
 
-    /// Says that a text has no statement.
-    #[tactic(auto, using(crate::proofs::QueryLaws::said_empty))]
-    fn say_empty(&mut self)
-        requires { KEPT_ROOM ≤ self.old.output.spare }
-        ensures { Takes (Readies (empty_query ∷ [])) self.old self.new }
+    /// Goes on behind a statement, whose tag is sent at once where others are left.
+    fn go_past(&mut self, tag: Tag, mut left: Left)
+        requires { HasTagRoom self.old }
+        ensures { GoesPast tag left self.old self.new }
     {
-        self.output.put_fixed(EMPTY_AND_READY);
-        self.be_ready();
+        match left.next() {
+            Some(next) => {
+                self.output.complete(tag);
+                self.phase = Phase::Statements(next, left);
+            }
+            None => self.phase = Phase::Query(tag),
+        }
     }
 
-    /// The error rule in a Query: the error is told, the transaction is dropped, and the Query ends. The statements that
-    /// are left aren't run.
-    #[tactic(auto, using(crate::proofs::QueryLaws::failed))]
-    fn fail(&mut self, why: &Refusal, features: &Features)
-        requires { KEPT_ROOM ≤ self.old.output.spare }
-        ensures { Failed features.now why.now self.old self.new }
+    /// The end of a Query whose last statement was answered: a transaction that no BEGIN began is committed, and its tag
+    /// is sent.
+    #[tactic(auto, using(crate::proofs::QueryLaws::ends_query))]
+    pub(crate) fn end_query<K: Keeper>(&mut self, store: &mut Store<K>)
+        requires fits { FitsStore self.old.transaction store.old }
+        requires room { HasStepRoom self.old }
+        ensures { (tag : OneTag) → self.old.phase ≡ phases.Query tag → Takes (EndsQuery tag) self.old store.old self.new store.new }
     {
-        self.tell_error(why, features);
-        self.be_ready();
+        if let Phase::Query(tag) = &self.phase {
+            let tag = *tag;
+            self.end_with(Some(tag), store);
+        }
     }
 
-    #[tactic(auto, using(crate::proofs::QueryLaws::told_error))]
-    fn tell_error(&mut self, why: &Refusal, features: &Features)
-        requires { KEPT_ROOM ≤ self.old.output.spare }
-        ensures { Told features.now why.now self.old self.new }
+    /// Ends a Query with a tag, or with the reply to a text without a statement.
+    #[tactic(auto, using(crate::proofs::QueryLaws::ends_through, crate::proofs::QueryLaws::ends_failed))]
+    fn end_with<K: Keeper>(&mut self, last: Option<Tag>, store: &mut Store<K>)
+        requires fits { FitsStore self.old.transaction store.old }
+        requires room { HasStatementRoom self.old }
+        ensures { Takes (Runs (EndsWith (last_of last ∷ []))) self.old store.old self.new store.new }
     {
-        self.output.refuse(self.alloc, why, features);
-        self.output.ready(Status::Idle);
+        match self.end_implicit(store) {
+            Some(why) => self.fail(&why, store),
+            None => self.be_ready(last),
+        }
     }
 
-    /// Want of memory stands for the message that took it: the transaction is dropped, and the Query ends.
+    fn be_ready(&mut self, last: Option<Tag>)
+        requires { HasTagRoom self.old }
+        ensures { IsReady (last_of last) self.old self.new }
+    {
+        match last {
+            Some(tag) => self.output.complete(tag),
+            None => self.output.say_empty(),
+        }
+        self.output.ready(status(&self.transaction));
+        self.phase = Phase::Ready;
+    }
+
+    /// The error rule in a Query: an open transaction is broken, the error is told, and the Query ends. The statements
+    /// that are left aren't run.
+    #[tactic(auto, using(crate::proofs::QueryLaws::failed_by))]
+    pub(crate) fn fail<K: Keeper>(&mut self, why: &Refusal, store: &mut Store<K>)
+        requires fits { FitsStore self.old.transaction store.old }
+        requires room { HasErrorRoom self.old }
+        ensures { Failed why.now self.old store.old self.new store.new }
+    {
+        self.transaction.fail(store);
+        self.output
+            .refuse(self.alloc, why, &store.catalog().features);
+        self.output.ready(status(&self.transaction));
+        self.phase = Phase::Ready;
+    }
+
+    /// Want of memory stands for the message that took it.
     #[tactic(auto, using(crate::proofs::QueryLaws::ran_out))]
-    pub(crate) fn run_out(&mut self)
-        requires { KEPT_ROOM ≤ self.old.output.spare }
-        ensures { Takes RunsOut self.old self.new }
+    pub(crate) fn run_out<K: Keeper>(&mut self, store: &mut Store<K>)
+        requires fits { FitsStore self.old.transaction store.old }
+        requires room { HasErrorRoom self.old }
+        ensures { Takes RunsOut self.old store.old self.new store.new }
     {
-        self.output.put_fixed(OUT_OF_MEMORY_AND_READY);
-        self.be_ready();
+        self.fail(&Refusal::OutOfMemory, store);
     }
 
     /// Refuses what isn't built yet, and ends.
     #[tactic(auto, using(crate::proofs::QueryLaws::rejected))]
-    pub(crate) fn reject(&mut self)
-        requires { KEPT_ROOM ≤ self.old.output.spare }
-        ensures { Takes Rejects self.old self.new }
+    pub(crate) fn reject<K: Keeper>(&mut self, store: &mut Store<K>)
+        requires fits { FitsStore self.old.transaction store.old }
+        requires room { HasErrorRoom self.old }
+        ensures { Takes Rejects self.old store.old self.new store.new }
     {
-        self.output.put_fixed(NOT_BUILT);
-        self.end();
+        self.output.refuse_fixed(&Refusal::NotBuilt);
+        self.end(store);
     }
 
-    /// The end of a Query whose last statement was answered: its transaction ends, and its tag is sent.
-    #[tactic(auto, using(crate::proofs::QueryLaws::ends_query))]
-    pub(crate) fn end_query(&mut self)
-        requires { KEPT_ROOM ≤ self.old.output.spare }
-        ensures { (complete : Back) → self.old.phase ≡ phases.Query complete → Takes (EndsQuery complete) self.old self.new }
+    /// The client says that it ends.
+    #[tactic(auto, using(crate::proofs::QueryLaws::terminated))]
+    pub(crate) fn terminate<K: Keeper>(&mut self, store: &mut Store<K>)
+        requires fits { FitsStore self.old.transaction store.old }
+        ensures { Takes Terminates self.old store.old self.new store.new }
     {
-        self.tell_end();
-        self.be_ready();
+        self.end(store);
     }
 
-    #[tactic(auto, using(crate::proofs::QueryLaws::told_complete, crate::proofs::QueryLaws::told_no_complete))]
-    fn tell_end(&mut self)
-        requires { KEPT_ROOM ≤ self.old.output.spare }
-        ensures { (complete : Back) → self.old.phase ≡ phases.Query complete → ToldEnd complete self.old self.new }
+    #[tactic(auto, using(crate::proofs::QueryLaws::is_ended))]
+    fn end<K: Keeper>(&mut self, store: &mut Store<K>)
+        requires fits { FitsStore self.old.transaction store.old }
+        ensures { IsEnded self.old store.old self.new store.new }
     {
-        match self.put_complete() {
-            Ok(()) => self.output.put_fixed(READY),
-            Err(Memory) => self.output.put_fixed(OUT_OF_MEMORY_AND_READY),
-        }
-    }
-
-    fn put_complete(&mut self) -> Result<(), Memory>
-        requires { KEPT_ROOM ≤ self.old.output.spare }
-        ensures ok { (complete : Back) → self.old.phase ≡ phases.Query complete → OnOk result (self.new.output.bytes ≡ self.old.output.bytes ++ spelled (complete ∷ [])) }
-        ensures err { OnErr result (self.new.output.bytes ≡ self.old.output.bytes) }
-        ensures ready { KEPT_ROOM ≤ self.new.output.spare }
-        ensures state { KeepsState self.old self.new }
-    {
-        match &self.phase {
-            Phase::Query(complete) => self.output.put(complete),
-            _ => Ok(()),
-        }
-    }
-
-    fn be_ready(&mut self)
-        ensures { IsReady self.old self.new }
-    {
-        self.phase = Phase::Ready;
-        self.transaction = Transaction::Idle;
-    }
-
-    pub(crate) fn end(&mut self)
-        ensures { IsEnded self.old self.new }
-    {
+        self.transaction.roll_back(store);
         self.phase = Phase::Ended;
-        self.transaction = Transaction::Idle;
     }
 }
 
-/// The statements of a Query that are still to be run, in their order.
-#[derive(Drop)]
-pub struct Left {
-    statements: VecDeque<Statement>,
-}
-
-impl Model for Left {
-    ghost use Rattle.std.specs.Prelude.{List as Items};
-    ghost use Rattle.std.specs.Coded.{codes, coded_list};
-    ghost use Rattle.vra_syntax.specs.contracts.statement.Statement as s;
-    ghost use Rattle.vra_syntax.specs.declared.statement.Statement.{Statement};
-
-    ghost Value = { Items Statement };
-
-    ghost coded = { coded_list (Prim.hlevel (codes, s.the_row.coded)) };
-
-    ghost view = { λ it. it.statements.items };
-}
-
-impl Left {
-    /// It takes no memory.
-    pub fn new(statements: List<Statement>) -> Left
-        ensures { result ≡ statements }
-    {
-        Left {
-            statements: VecDeque::from_vec(statements.into_vec()),
-        }
-    }
-
-    /// Takes the first one off.
-    pub fn next(&mut self) -> Option<Statement>
-        ensures { MatchOption result ((self.old ≡ []) × (self.new ≡ [])) (λ first. self.old ≡ first ∷ self.new) }
-    {
-        self.statements.pop_front()
+/// What a client is told of a transaction.
+pub fn status(transaction: &Transaction) -> Status
+    ensures { result ≡ status_of (transaction_of transaction.now) }
+{
+    match transaction {
+        Transaction::Idle => Status::Idle,
+        Transaction::Implicit(_, _) => Status::Idle,
+        Transaction::Block(_, _) => Status::InBlock,
+        Transaction::Failed => Status::Failed,
     }
 }
 
@@ -252,15 +238,5 @@ pub fn read(alloc: Global, text: &[u8], features: &Features) -> Result<List<Stat
     match parse(alloc, text, features, false) {
         Ok(statements) => Ok(statements),
         Err(why) => Err(Refusal::Unparsed(why)),
-    }
-}
-
-/// The query, where a statement is one.
-fn into_query(statement: Statement) -> Option<Query>
-    ensures { result ≡ query_of statement }
-{
-    match statement {
-        Statement::Query(query) => Some(query),
-        _ => None,
     }
 }

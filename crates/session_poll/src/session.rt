@@ -2,10 +2,12 @@ ghost use Rattle.std.specs.Prelude.{◌≡◌, ◌+◌, ◌-◌, true, false, []
 ghost use Rattle.session_poll.specs.declared.inbox.TheConstants.{INBOX_SIZE};
 
 use crate::inbox::Inbox;
-use crate::opening::Opening;
-use crate::state::{Phase, Transaction};
+use crate::state::Phase;
+use commit_log::Keeper;
 use feature_expr::Memory;
 use session_replies::Output;
+use session_transactions::Transaction;
+use snapshot_store::Store;
 use std::alloc::Global;
 
 /// A client's session.
@@ -23,7 +25,9 @@ impl Session {
     ghost use Rattle.std.specs.Prelude.{ℕ, List};
     ghost use Rattle.session_poll.specs.Runs.{Did, IsAt};
     ghost use Rattle.session_poll.specs.Session.{held_of, waiting_of, is_over};
-    ghost use Rattle.session_poll.specs.declared.opening.Opening.{Opening};
+    ghost use Rattle.session_transactions.specs.Goings.{FitsStore, Goes};
+    ghost use Rattle.session_transactions.specs.declared.transaction.Transaction.TheVariants as transactions;
+    ghost use Rattle.stored_versions.specs.Openings.{Opening};
 
     /// A session that has taken nothing yet, with the memory for its inbox.
     #[tactic(auto, using(crate::proofs::SessionLaws::at_start))]
@@ -31,6 +35,7 @@ impl Session {
         ensures waiting { IfOk result (λ session. waiting_of session ≡ []) }
         ensures held { IfOk result (λ session. held_of session ≡ []) }
         ensures over { IfOk result (λ session. is_over session ≡ false) }
+        ensures transaction { IfOk result (λ session. session.transaction ≡ transactions.Idle) }
         // It stands at the end of the empty run.
         ensures at { IfOk result (λ session. (opening : Opening) → IsAt opening [] [] [] session) }
     {
@@ -60,6 +65,7 @@ impl Session {
         ensures held { held_of self.new ≡ held_of self.old ++ take result bytes.now }
         ensures waiting { waiting_of self.new ≡ waiting_of self.old }
         ensures over { is_over self.new ≡ is_over self.old }
+        ensures transaction { self.new.transaction ≡ self.old.transaction }
         // Each run goes on, with these bytes fed.
         ensures at { (opening : Opening) (fed taken : List ℕ) (run : List Did) → IsAt opening fed taken run self.old → IsAt opening (fed ++ take result bytes.now) taken run self.new }
     {
@@ -72,6 +78,7 @@ impl Session {
         ensures waiting { waiting_of self.new ≡ waiting_of self.old }
         ensures held { held_of self.new ≡ held_of self.old }
         ensures over { is_over self.new ≡ true }
+        ensures transaction { self.new.transaction ≡ self.old.transaction }
         ensures at { (opening : Opening) (fed taken : List ℕ) (run : List Did) → IsAt opening fed taken run self.old → IsAt opening fed taken run self.new }
     {
         self.is_over = true;
@@ -97,6 +104,7 @@ impl Session {
         ensures waiting { waiting_of self.new ≡ drop (min count (length (waiting_of self.old))) (waiting_of self.old) }
         ensures held { held_of self.new ≡ held_of self.old }
         ensures over { is_over self.new ≡ is_over self.old }
+        ensures transaction { self.new.transaction ≡ self.old.transaction }
         // Each run goes on, with these bytes taken.
         ensures at { (opening : Opening) (fed taken : List ℕ) (run : List Did) → IsAt opening fed taken run self.old → IsAt opening fed (taken ++ take count (waiting_of self.old)) run self.new }
     {
@@ -104,6 +112,13 @@ impl Session {
         self.output.take(count);
     }
 
-    /// Ends the session. What it still had for the client is dropped.
-    pub fn close(self, _opening: &Opening) {}
+    /// Ends the session. Its transaction is dropped, and what it still had for the client. It takes no memory.
+    pub fn close<K: Keeper>(self, store: &mut Store<K>)
+        requires { FitsStore self.transaction store.old }
+        ensures { Goes self.transaction store.old [] transactions.Idle store.new }
+    {
+        let Session { transaction, .. } = self;
+        let mut transaction = transaction;
+        transaction.roll_back(store);
+    }
 }

@@ -1,68 +1,84 @@
 //! The start-up rule: which start-up message is taken, and what it is answered.
 
-ghost use Rattle.std.specs.Prelude.{◌≤◌, ◌≡◌, ◌++◌, [], codes, length, Option, Some, None, ◌&&◌, ◌==◌, ◌<◌, if◌then◌else◌, OnOk, IfOk, OnErr};
-ghost use Rattle.std.specs.List.{list_any};
+ghost use Rattle.std.specs.Prelude.{◌≡◌, ◌++◌, [], ◌∷◌, map, drop, take, codes, length, Option, Some, None, not, ◌&&◌, ◌==◌, ◌<◌, if◌then◌else◌, OnOk, IfOk, IfSome, IfNone, true, OnErr};
+ghost use Rattle.std.specs.List.{list_any, flat_map};
 ghost use Rattle.std.specs.Option.{option_map};
-ghost use Rattle.session_replies.specs.declared.output.TheConstants.{KEPT_ROOM};
-ghost use Rattle.session_poll.specs.StartUps.{is_taken, is_refused_name, is_not_empty, value_of, with_commas, piece, fixed_parameters, welcome, StartsUp, Welcomes};
+ghost use Rattle.session_poll.specs.StartUps.{is_taken, is_refused_name, is_not_empty, value_of, value_in, later_or, with_commas, piece, fixed_parameters, welcome, StartsUp, Welcomes};
 ghost use Rattle.session_poll.specs.Parts.{Takes, KeepsState};
-ghost use Rattle.session_replies.specs.Replies.{spelled};
-ghost use Rattle.session_poll.specs.State.{status_of, transaction_of};
+ghost use Rattle.session_poll.specs.State.{status_of};
+ghost use Rattle.session_poll.specs.Rooms.{HasErrorRoom, HasStatementRoom, HasStepRoom};
+ghost use Rattle.session_replies.specs.Replies.{out_of_memory, spelled};
+ghost use Rattle.session_transactions.specs.Goings.{FitsStore};
+ghost use Rattle.session_transactions.specs.Transactions.{transaction_of};
 ghost use Rattle.session_poll.specs.StartUps as rule;
 ghost use Rattle.session_poll.specs.Steps.{RefusesStart};
 
-use crate::fixed::OUT_OF_MEMORY;
-use crate::opening::Opening;
+use crate::queries::status;
 use crate::session::Session;
 use crate::state::Phase;
+use commit_log::Keeper;
 use feature_expr::{Features, List, Memory, print_expr};
 use pg_messages::{Back, Pair, Startup, Status};
-use session_replies::parameter;
+use session_replies::{Refusal, parameter};
+use snapshot_store::Store;
 use std::alloc::Global;
+use vschema::Catalog;
 
 impl Session {
     /// Answers a start-up packet.
     #[tactic(auto, using(crate::proofs::StartLaws::starts_up, crate::proofs::StartLaws::starts_not))]
-    pub(crate) fn start_up(&mut self, packet: &Startup, opening: &Opening)
-        requires { KEPT_ROOM ≤ self.old.output.spare }
-        ensures { Takes (StartsUp opening.now packet.now) self.old self.new }
+    pub(crate) fn start_up<K: Keeper>(&mut self, packet: &Startup, store: &mut Store<K>)
+        requires fits { FitsStore self.old.transaction store.old }
+        requires room { HasStepRoom self.old }
+        ensures { Takes (StartsUp packet.now) self.old store.old self.new store.new }
     {
         if is_taken(packet) {
-            self.welcome(opening);
+            self.welcome(store);
         } else {
-            self.reject();
+            self.reject(store);
         }
     }
 
     #[tactic(auto, using(crate::proofs::StartLaws::welcomed, crate::proofs::StartLaws::not_welcomed))]
-    fn welcome(&mut self, opening: &Opening)
-        requires { KEPT_ROOM ≤ self.old.output.spare }
-        ensures { Takes (Welcomes opening.now) self.old self.new }
+    fn welcome<K: Keeper>(&mut self, store: &Store<K>)
+        requires fits { FitsStore self.old.transaction store.now }
+        requires room { HasStepRoom self.old }
+        ensures { Takes Welcomes self.old store.now self.new store.now }
     {
-        match self.put_welcome(opening) {
+        match self.put_welcome(store.catalog()) {
             Ok(()) => self.phase = Phase::Ready,
-            Err(Memory) => self.output.put_fixed(OUT_OF_MEMORY),
+            Err(Memory) => self.say_out_of_memory(),
         }
     }
 
-    fn put_welcome(&mut self, opening: &Opening) -> Result<(), Memory>
-        requires { KEPT_ROOM ≤ self.old.output.spare }
-        ensures ok { OnOk result (self.new.output.bytes ≡ self.old.output.bytes ++ spelled (rule.welcome opening.now (status_of (transaction_of self.old.transaction)))) }
+    fn put_welcome(&mut self, catalog: &Catalog) -> Result<(), Memory>
+        requires { HasStepRoom self.old }
+        ensures ok { OnOk result (self.new.output.bytes ≡ self.old.output.bytes ++ spelled (rule.welcome catalog.now (status_of (transaction_of self.old.transaction)))) }
         ensures err { OnErr result (self.new.output.bytes ≡ self.old.output.bytes) }
-        ensures ready { KEPT_ROOM ≤ self.new.output.spare }
+        ensures room { HasStatementRoom self.new }
         ensures state { KeepsState self.old self.new }
     {
-        let messages = welcome(self.alloc, opening, self.transaction.status())?;
+        let messages = welcome(self.alloc, catalog, status(&self.transaction))?;
         self.output.put_all(messages.as_slice())
     }
 
     /// Want of memory stands for a start-up packet that wasn't read, and the session still waits for one.
     #[tactic(auto, using(crate::proofs::StartLaws::refused))]
-    pub(crate) fn refuse_start(&mut self)
-        requires { KEPT_ROOM ≤ self.old.output.spare }
-        ensures { Takes RefusesStart self.old self.new }
+    pub(crate) fn refuse_start<K: Keeper>(&mut self, store: &Store<K>)
+        requires fits { FitsStore self.old.transaction store.now }
+        requires room { HasStepRoom self.old }
+        ensures { Takes RefusesStart self.old store.now self.new store.now }
     {
-        self.output.put_fixed(OUT_OF_MEMORY);
+        let _store = store;
+        self.say_out_of_memory();
+    }
+
+    fn say_out_of_memory(&mut self)
+        requires { HasErrorRoom self.old }
+        ensures put { self.new.output.bytes ≡ self.old.output.bytes ++ spelled (out_of_memory ∷ []) }
+        ensures state { KeepsState self.old self.new }
+    {
+        self.output.refuse_fixed(&Refusal::OutOfMemory);
     }
 }
 
@@ -116,14 +132,14 @@ fn last_value<'a>(name: &[u8], pairs: &'a [Pair]) -> Option<&'a [u8]>
 }
 
 /// The reply to a start-up message that is taken.
-pub fn welcome(alloc: Global, opening: &Opening, status: Status) -> Result<List<Back>, Memory>
-    ensures { IfOk result (λ it. it ≡ welcome opening.now status) }
+pub fn welcome(alloc: Global, catalog: &Catalog, status: Status) -> Result<List<Back>, Memory>
+    ensures { IfOk result (λ it. it ≡ welcome catalog.now status) }
 {
     let mut messages = fixed_parameters(alloc)?;
-    let features = &opening.catalog.features;
+    let features = &catalog.features;
     let names = feature_names(alloc, features)?;
     messages.push(parameter(alloc, b"vdb_features", names.as_slice())?)?;
-    let model = print_expr(alloc, &opening.catalog.model, features)?;
+    let model = print_expr(alloc, &catalog.model, features)?;
     messages.push(parameter(alloc, b"vdb_model", model.as_slice())?)?;
     messages.push(Back::BackendKeyData(1, 0))?;
     messages.push(Back::ReadyForQuery(status))?;

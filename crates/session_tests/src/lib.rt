@@ -1,5 +1,11 @@
-//! Tests of a session: what it answers to streams of packets, and how it stands after each poll. It exports nothing.
+//! Tests of what a session answers.
 #![tactic(auto)]
 
 #[cfg(test)]
+mod client;
+#[cfg(test)]
 mod replies;
+#[cfg(test)]
+mod texts;
+#[cfg(test)]
+mod transactions;

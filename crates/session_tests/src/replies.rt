@@ -1,15 +1,12 @@
-ghost use Rattle.std.specs.Prelude.{IfOk};
-ghost use Rattle.session_poll.specs.Servable.{IsServable};
-
+use crate::client::{open, polls, reply, store_of};
+use crate::texts::{behind_start, texts_told};
 use feature_expr::Text;
 use pg_messages::{Back, Decoded, decode_back};
-use session_poll::{Opening, Polled, Session};
+use session_poll::Polled;
 use std::alloc::Global;
 use std::fmt::Write;
 use std::str;
 use std::test::Fail;
-use vra_types::check_catalog;
-use vschema::parse_catalog;
 
 const CATALOGUE: &[u8] =
     b"features A;\ntable t (id int8, name text);\nrow t (id 1, name 'ann');\nrow t (id 2, name 'bob') when A;\n";
@@ -18,61 +15,13 @@ const CATALOGUE: &[u8] =
 const STREAM: &[u8] =
     b"\x00\x00\x00\x10\x00\x03\x00\x00user\x00u\x00\x00Q\x00\x00\x00\x07t;\x00Q\x00\x00\x00\x0e \t T -- x\x00Q\x00\x00\x00\x06u\x00X\x00\x00\x00\x04";
 
-fn opening(alloc: Global) -> Result<Opening, Fail>
-    ensures { IfOk result IsServable }
-{
-    let opening = opening_of(alloc, CATALOGUE)?;
-    Ok(opening)
-}
-
-fn opening_of(alloc: Global, catalogue: &[u8]) -> Result<Opening, Fail>
-    ensures { IfOk result IsServable }
-{
-    let (catalog, rows) = parse_catalog(alloc, catalogue)?;
-    let model = check_catalog(alloc, &catalog, &rows)?;
-    match Opening::new(alloc, catalog, rows, model) {
-        Ok(opening) => Ok(opening),
-        Err(_memory) => Err("memory")?,
-    }
-}
-
-/// What a session answers to a stream that it is fed in pieces of this size.
-fn reply(alloc: Global, opening: &Opening, stream: &[u8], cut: usize) -> Result<Vec<u8>, Fail>
-    requires { IsServable opening.now }
-{
-    let mut session = Session::open(alloc).map_err(|_| "memory")?;
-    let mut out = Vec::new(alloc);
-    let mut fed = 0usize;
-    for _ in 0..10_000 {
-        match session.poll(opening) {
-            Polled::Again => {}
-            Polled::Closed => break,
-            Polled::NeedOutput => {
-                out.extend_from_slice(session.bytes())?;
-                session.take(session.waiting());
-            }
-            Polled::NeedInput => {
-                let end = fed.saturating_add(cut).min(stream.len());
-                let piece = stream.get(fed..end).ok_or("a piece")?;
-                if piece.is_empty() {
-                    session.end_input();
-                }
-                fed = fed.saturating_add(session.feed(piece));
-            }
-        }
-    }
-    session.close(opening);
-    Ok(out)
-}
-
 #[test]
 fn pieces_of_any_size_have_one_reply(rt: HostRuntime) -> Result<(), Fail> {
-    let opening = opening(rt.alloc())?;
-    let whole = reply(rt.alloc(), &opening, STREAM, STREAM.len())?;
+    let whole = reply(rt.alloc(), CATALOGUE, STREAM, STREAM.len())?;
     // The start-up's reply has 231 bytes; a table's 20, 74, 27, 24, 14 and 6; the error and its end 20, 49 and 6.
     assert_eq!(rt; whole.len(), 231 + 165 + 165 + 75);
     for cut in [1, 7, 4_096] {
-        let pieces = reply(rt.alloc(), &opening, STREAM, cut)?;
+        let pieces = reply(rt.alloc(), CATALOGUE, STREAM, cut)?;
         assert_eq!(rt; pieces.as_slice(), whole.as_slice(), "{cut}");
     }
     Ok(())
@@ -80,16 +29,11 @@ fn pieces_of_any_size_have_one_reply(rt: HostRuntime) -> Result<(), Fail> {
 
 #[test]
 fn a_poll_says_how_the_session_stands(rt: HostRuntime) -> Result<(), Fail> {
-    let opening = opening(rt.alloc())?;
-    let mut session = Session::open(rt.alloc()).map_err(|_| "memory")?;
-    assert_eq!(rt; session.space(), 1_048_581);
-    assert_eq!(rt; session.poll(&opening), Polled::NeedInput);
+    let mut store = store_of(rt.alloc(), CATALOGUE, 10)?;
+    let mut session = open(rt.alloc())?;
     let (front, back) = STREAM.split_at(15);
-    assert_eq!(rt; session.feed(front), 15);
-    assert_eq!(rt; session.poll(&opening), Polled::NeedInput);
-    assert_eq!(rt; session.space(), 1_048_566);
-    assert_eq!(rt; session.feed(back), back.len());
-    let polls = [
+    let waits = [Polled::NeedInput];
+    let wanted = [
         Polled::Again, // the start-up
         Polled::Again, // the first Query
         Polled::Again, // its table
@@ -101,11 +45,12 @@ fn a_poll_says_how_the_session_stands(rt: HostRuntime) -> Result<(), Fail> {
         Polled::Again, // its table, which isn't there
         Polled::NeedOutput, // the Terminate
     ];
-    for polled in polls {
-        assert_eq!(rt; session.poll(&opening), polled);
-    }
+    assert!(rt; polls(&mut session, &mut store, &[], &waits));
+    assert!(rt; polls(&mut session, &mut store, front, &waits));
+    assert!(rt; polls(&mut session, &mut store, back, &wanted));
     session.take(session.waiting());
-    assert_eq!(rt; session.poll(&opening), Polled::Closed);
+    let ends = [Polled::Closed];
+    assert!(rt; polls(&mut session, &mut store, &[], &ends));
     Ok(())
 }
 
@@ -280,9 +225,8 @@ fn answer_to(alloc: Global, catalogue: &str, query: &str) -> Result<String, Fail
 
 /// What a session over a catalogue answers to a start-up and a Query.
 fn query_reply(alloc: Global, catalogue: &str, query: &[u8]) -> Result<Vec<u8>, Fail> {
-    let opening = opening_of(alloc, catalogue.as_bytes())?;
     let stream = query_stream(alloc, query)?;
-    reply(alloc, &opening, stream.as_slice(), 4_096)
+    reply(alloc, catalogue.as_bytes(), stream.as_slice(), 4_096)
 }
 
 /// A start-up, a Query and a Terminate.
@@ -414,21 +358,6 @@ fn queries_are_answered_byte_for_byte(rt: HostRuntime) -> Result<(), Fail> {
     Ok(())
 }
 
-/// What is told behind the first ReadyForQuery.
-fn behind_start(alloc: Global, reply: &[u8]) -> Result<&[u8], Fail> {
-    let mut rest = reply;
-    for _ in 0..100 {
-        let Decoded::Whole(back, count) = decode_back(alloc, rest) else {
-            break;
-        };
-        rest = rest.get(count..).ok_or("a message")?;
-        if matches!(&back, Back::ReadyForQuery(_)) {
-            return Ok(rest);
-        }
-    }
-    Err("no ReadyForQuery")?
-}
-
 const TWO: &str = "features A, B; table t (id int8); table u (id int8) when B; row t (id 1);";
 
 /// Queries over the catalogue of the tables `t` and `u`, and each message of their replies: its texts, with a comma
@@ -524,11 +453,14 @@ const TOLD: [(&[u8], &str); 27] = [
         "vdb_snapshot, 0; id, when; 1, true; SELECT 1; ready; ",
     ),
     (b"empty", "vdb_snapshot, 0; when; SELECT 0; ready; "),
-    // Not built yet, and no transaction begins for it.
-    (b"begin; t", "FATAL, FATAL, 0A000, not built yet; "),
+    // Statements without rows.
+    (
+        b"begin; t",
+        "vdb_snapshot, 0; BEGIN; id, when; 1, true; SELECT 1; ready T; ",
+    ),
     (
         b"t; set a to b; t",
-        "vdb_snapshot, 0; id, when; 1, true; SELECT 1; FATAL, FATAL, 0A000, not built yet; ",
+        "vdb_snapshot, 0; id, when; 1, true; SELECT 1; SET; id, when; 1, true; SELECT 1; ready; ",
     ),
 ];
 
@@ -540,69 +472,6 @@ fn each_query_has_its_reply(rt: HostRuntime) -> Result<(), Fail> {
         let told = texts_told(rt.alloc(), messages)?;
         assert_eq!(rt; told.as_str(), wanted, "{query:?}");
     }
-    Ok(())
-}
-
-fn texts_told(alloc: Global, messages: &[u8]) -> Result<String, Fail> {
-    let mut text = String::new(alloc);
-    let mut rest = messages;
-    for _ in 0..100 {
-        let Decoded::Whole(back, count) = decode_back(alloc, rest) else {
-            return Ok(text);
-        };
-        push_texts(&mut text, &back)?;
-        rest = rest.get(count..).ok_or("a message")?;
-    }
-    Ok(text)
-}
-
-fn push_texts(text: &mut String, back: &Back) -> Result<(), Fail> {
-    match back {
-        Back::ParameterStatus(name, value) => {
-            push_text(text, name)?;
-            push_text(text, value)?;
-        }
-        Back::RowDescription(fields) => {
-            for field in fields.as_slice() {
-                push_text(text, &field.name)?;
-            }
-        }
-        Back::DataRow(cells) => {
-            for cell in cells.as_slice() {
-                push_cell_text(text, cell)?;
-            }
-        }
-        Back::CommandComplete(tag) => push_text(text, tag)?,
-        Back::ErrorResponse(fields) => {
-            for field in fields.as_slice() {
-                push_text(text, &field.text)?;
-            }
-        }
-        Back::EmptyQueryResponse => text.push_str("empty, ")?,
-        Back::ReadyForQuery(_) => text.push_str("ready, ")?,
-        _ => {}
-    }
-    let end = text.len().saturating_sub(2);
-    if text.is_char_boundary(end) {
-        text.truncate(end);
-    }
-    text.push_str("; ")?;
-    Ok(())
-}
-
-fn push_cell_text(text: &mut String, cell: &Option<Text>) -> Result<(), Fail> {
-    match cell {
-        Some(cell) => push_text(text, cell),
-        None => {
-            text.push_str("-, ")?;
-            Ok(())
-        }
-    }
-}
-
-fn push_text(text: &mut String, more: &Text) -> Result<(), Fail> {
-    text.push_str(str::from_utf8(more.as_slice())?)?;
-    text.push_str(", ")?;
     Ok(())
 }
 

@@ -17,7 +17,7 @@ const START_UP: &[u8] = b"\x00\x00\x00\x10\x00\x03\x00\x00user\x00u\x00\x00";
 const READY: &[u8] = b"K\x00\x00\x00\x0c\x00\x00\x00\x01\x00\x00\x00\x00Z\x00\x00\x00\x05I";
 
 /// What a client sends behind the start-up, and what it gets behind that one's reply.
-const REPLIES: [(&[u8], &[u8]); 10] = [
+const REPLIES: [(&[u8], &[u8]); 11] = [
     // An unknown table.
     (
         b"Q\x00\x00\x00\x06u\x00X\x00\x00\x00\x04",
@@ -45,9 +45,14 @@ const REPLIES: [(&[u8], &[u8]); 10] = [
         b"Q\x00\x00\x00\x0eu;begin;t\x00",
         b"S\x00\x00\x00\x13vdb_snapshot\x000\x00E\x00\x00\x00\x30SERROR\x00VERROR\x00C42P01\x00Mtable u is not known\x00\x00Z\x00\x00\x00\x05I",
     ),
+    // A write, of which the place is told, and a block.
     (
-        b"Q\x00\x00\x00\x0cbegin;t\x00",
-        b"E\x00\x00\x00\x29SFATAL\x00VFATAL\x00C0A000\x00Mnot built yet\x00\x00",
+        b"Q\x00\x00\x00\x12delete from t\x00X\x00\x00\x00\x04",
+        b"S\x00\x00\x00\x13vdb_snapshot\x000\x00S\x00\x00\x00\x11vdb_commit\x001\x00C\x00\x00\x00\x0dDELETE 2\x00Z\x00\x00\x00\x05I",
+    ),
+    (
+        b"Q\x00\x00\x00\x0abegin\x00",
+        b"S\x00\x00\x00\x13vdb_snapshot\x000\x00C\x00\x00\x00\x0aBEGIN\x00Z\x00\x00\x00\x05T",
     ),
     // A message that isn't known yet, and a length that none has.
     (

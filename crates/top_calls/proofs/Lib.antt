@@ -2,6 +2,7 @@ mod CheckLaws
 mod CompleteLaws
 mod CountLaws
 mod FillLaws
+mod LogLaws
 mod Pieces
 mod ReadyLaws
 mod ReplayLaws

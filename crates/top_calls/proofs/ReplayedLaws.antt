@@ -1,14 +1,18 @@
 -- What a replay of a file over a catalogue has put out, from what the session's drive did.
-use Rattle.std.proofs.Common.{◌≡◌, ◌≤◌, ℕ, Bool, false, List, length, inl, inr, refl, subst}
+use Rattle.std.proofs.Common.{◌≡◌, ◌≤◌, ℕ, Bool, false, List, [], length, inl, inr, refl, subst}
 use Rattle.causes.specs.Faults.{Rose}
 use Rattle.causes.specs.Told.{IsContent}
-use Rattle.session_poll.specs.declared.opening.Opening.{Opening}
+use Rattle.stored_versions.specs.Openings.{Opening}
 use Rattle.vschema.specs.declared.catalog.Catalog.{Catalog}
 use Rattle.vschema.specs.declared.catalog.OpeningRow.{OpeningRow}
 use Rattle.top_calls.specs.Checks.{IsChecked, IsCheckedFile}
 use Rattle.top_calls.specs.Exits.{IsOpeningExit, IsReadExit}
-use Rattle.top_calls.specs.Replays.{IsReplayExit, Replays, ReplaysAll}
+use Rattle.top_calls.specs.Replays.{IsReplayExit, Replays, ReplaysAll, log_limit}
 use Rattle.top_calls.specs.Replayed.{IsReplayedExit, IsRunExit}
+use Rattle.commit_log.specs.Places.{own_kept}
+use Rattle.store_states.specs.Promises.{Opens}
+use Rattle.store_states.specs.Stored.{Stored}
+use Rattle.top_calls.specs.Stores.{IsOpenedStore}
 use Rattle.top_calls.specs.Sinks.{Held}
 use Rattle.top_calls.specs.Sources.{Files, IsLong, file_limit}
 use Rattle.top_calls.specs.declared.exit.Exit.{Exit}
@@ -72,3 +76,18 @@ read_runs exit.Memory before mid after catalogue stream catalog rows out is chec
 read_runs exit.TooLong before mid after catalogue stream catalog rows out is checked contents sure faults =
     (inr (record { catalog = catalog; rows = rows; checked = checked }, subst (λ told. IsLong told stream file_limit) contents is), refl)
 read_runs exit.KeeperFault before mid after catalogue stream catalog rows out is checked contents sure faults = absurd is
+
+-- over a store that was opened over the first file
+
+pub read_over : (result : Exit) (before mid after : Files) (catalogue stream : List ℕ) (store : Stored) (out : Held) → IsReadExit mid stream result after → IsOpenedStore before catalogue store → mid.contents ≡ before.contents → mid.is_sure ≡ before.is_sure → mid.faults ≡ before.faults → IsRunExit before catalogue stream result after out out
+read_over result before mid after catalogue stream store out is opened contents sure faults =
+    read_runs result before mid after catalogue stream opened.opening.catalog opened.opening.rows out is opened.checked contents sure faults
+
+pub replayed_over : (files : Files) (catalogue stream : List ℕ) (store : Stored) (bytes : List ℕ) (result : Exit) (before after : Held) → IsOpenedStore files catalogue store → IsContent files.contents stream bytes → length bytes ≤ file_limit → IsReplayExit result before after →
+    ((opening : Opening) → Opens opening (own_kept [] log_limit 0) 0 store → Replays opening bytes before.bytes after.bytes) →
+    (result ≡ exit.Done → (opening : Opening) → Opens opening (own_kept [] log_limit 0) 0 store → ReplaysAll opening bytes before.bytes after.bytes) → IsReplayedExit files catalogue stream result before after
+replayed_over files catalogue stream store bytes result before after opened content within ends begun all =
+    replayed files catalogue stream opened.opening bytes result before after opened.checked content within ends (begun opened.opening opened.opens) (λ done. all done opened.opening opened.opens)
+
+pub opened_by : (files : Files) (name : List ℕ) (catalog : Catalog) (rows : List OpeningRow) (store : Stored) → IsCheckedFile files name catalog rows → Opens (record { catalog = catalog; rows = rows }) (own_kept [] log_limit 0) 0 store → IsOpenedStore files name store
+opened_by files name catalog rows store checked opens = record { opening = record { catalog = catalog; rows = rows }; checked = checked; opens = opens }

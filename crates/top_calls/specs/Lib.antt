@@ -7,3 +7,4 @@ pub mod Replayed
 pub mod Replays
 pub mod Sinks
 pub mod Sources
+pub mod Stores

@@ -2,7 +2,7 @@
 use Rattle.std.specs.Prelude.{◌≡◌, ℕ, ◌≤◌, ◌⊎◌, List, length}
 use Rattle.causes.specs.Faults.{Rose}
 use Rattle.causes.specs.Told.{IsContent}
-use Rattle.session_poll.specs.declared.opening.Opening.{Opening}
+use Rattle.stored_versions.specs.Openings.{Opening}
 use Rattle.top_calls.specs.Checks.{IsChecked, IsCheckedFile}
 use Rattle.top_calls.specs.Exits.{IsReadable, IsRefusedFile}
 use Rattle.top_calls.specs.Replays.{Replays, IsWhole}

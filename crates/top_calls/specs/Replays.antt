@@ -2,14 +2,16 @@
 use Rattle.std.specs.Prelude.{◌≡◌, ℕ, ◌<◌, ◌≤◌, Bool, true, false, List, [], ◌++◌, length, take, Option}
 use Rattle.std.specs.Io.KnownBytes.{Appends}
 use Rattle.causes.specs.Faults.{Rose}
-use Rattle.session_poll.specs.Runs.{Did, IsRun, AllFit, end_of, bytes_read, events_of, replied, IsAt}
+use Rattle.commit_log.specs.Places.{own_kept}
+use Rattle.session_poll.specs.Runs.{Did, IsRun, end_of, bytes_read, events_of, replied, IsAt}
 use Rattle.session_poll.specs.Session.{held_of, is_over, waiting_of}
-use Rattle.session_poll.specs.declared.polled.Polled.{Polled}
-use Rattle.session_poll.specs.declared.polled.Polled.TheVariants as polled
 use Rattle.session_poll.specs.Standing.{works}
 use Rattle.session_poll.specs.declared.inbox.TheConstants.{INBOX_SIZE}
-use Rattle.session_poll.specs.declared.opening.Opening.{Opening}
+use Rattle.session_poll.specs.declared.polled.Polled.{Polled}
+use Rattle.session_poll.specs.declared.polled.Polled.TheVariants as polled
 use Rattle.session_poll.specs.declared.session.Session.{Session}
+use Rattle.store_events.specs.Ties.{Moment, Ties}
+use Rattle.stored_versions.specs.Openings.{Opening}
 use Rattle.top_calls.specs.Sinks.{Held}
 use Rattle.top_calls.specs.declared.exit.Exit.{Exit}
 use Rattle.top_calls.specs.declared.exit.Exit.TheVariants as exit
@@ -33,12 +35,23 @@ IsReplayExit exit.WriteFault before after = Rose before.faults after.faults
 IsReplayExit exit.Memory before after = Unit {0}
 IsReplayExit _ before after = ⊥
 
+-- the greatest number of commits of a replay's log
+abbrev pub log_limit : ℕ
+log_limit = 1000000
+
+-- the log of a replay before its first poll is empty
+abbrev pub first_moment : Moment
+first_moment = record { kept = own_kept [] log_limit 0; loop_no = 0; next = 0 }
+
 -- What was put out begins the reply of a run of the session machine, whose inputs are the first packets of the stream.
--- The log is empty.
+-- The log begins empty, and what the store answered ties it to a log in which each commit is one of the run's, in order,
+-- and whose keeper has not failed.
 pub record Replays (opening : Opening) (stream : List ℕ) (before after : Option (List ℕ)) : Type 0 where
   pub run : List Did
   pub is_run : IsRun opening run
-  pub fits : AllFit 0 (events_of run)
+  pub last : Moment
+  pub ties : Ties first_moment (events_of run) last
+  pub own_alone : last.kept ≡ own_kept last.kept.seen log_limit 0
   pub rest : List ℕ
   pub input : stream ≡ bytes_read run ++ rest
   pub sent : List ℕ
@@ -56,21 +69,42 @@ pub record ReplaysAll (opening : Opening) (stream : List ℕ) (before after : Op
   pub begun : Replays opening stream before after
   pub whole : IsWhole begun
 
--- A session was fed so many bytes of the stream, and what was taken of its output was put out.
-pub record InReplay (opening : Opening) (stream : List ℕ) (fed : ℕ) (start now : Option (List ℕ)) (session : Session) : Type 0 where
+-- The same from one moment of a store to another, whatever its log.
+pub record ReplaysFrom (opening : Opening) (stream : List ℕ) (first last : Moment) (before after : Option (List ℕ)) : Type 0 where
+  pub run : List Did
+  pub is_run : IsRun opening run
+  pub ties : Ties first (events_of run) last
+  pub rest : List ℕ
+  pub input : stream ≡ bytes_read run ++ rest
+  pub sent : List ℕ
+  pub unsent : List ℕ
+  pub output : replied run ≡ sent ++ unsent
+  pub put : Appends before after sent
+
+pub record ReplaysAllFrom (opening : Opening) (stream : List ℕ) (first last : Moment) (before after : Option (List ℕ)) : Type 0 where
+  pub begun : ReplaysFrom opening stream first last before after
+  pub sent_all : begun.unsent ≡ []
+  pub read_out : works (end_of begun.run).phase begun.rest ≡ false
+
+-- A session was fed so many bytes of the stream, what was taken of its output was put out, and what the store answered
+-- since the first moment is in its run.
+pub record InReplay (opening : Opening) (stream : List ℕ) (fed : ℕ) (first now : Moment) (before after : Option (List ℕ)) (session : Session) : Type 0 where
   pub run : List Did
   pub taken : List ℕ
   pub at : IsAt opening (take fed stream) taken run session
-  pub put : Appends start now taken
+  pub ties : Ties first (events_of run) now
+  pub put : Appends before after taken
   pub over : is_over session ≡ true → fed ≡ length stream
 
 -- whatever was put out before, the replay goes on
 pub record GoesOn (stream : List ℕ) (fed : ℕ) (before : Option (List ℕ)) (old : Session) (next : ℕ) (after : Option (List ℕ)) (new : Session) : Type 0 where
-  pub on : (opening : Opening) (start : Option (List ℕ)) → InReplay opening stream fed start before old → InReplay opening stream next start after new
+  pub on : (opening : Opening) (first now : Moment) (start : Option (List ℕ)) → InReplay opening stream fed first now start before old → InReplay opening stream next first now start after new
+  pub transaction : new.transaction ≡ old.transaction
 
 -- or it stops in the midst of what was to be put out
-pub record Stops (stream : List ℕ) (fed : ℕ) (before : Option (List ℕ)) (old : Session) (after : Option (List ℕ)) : Type 0 where
-  pub on : (opening : Opening) (start : Option (List ℕ)) → InReplay opening stream fed start before old → Replays opening stream start after
+pub record Stops (stream : List ℕ) (fed : ℕ) (before : Option (List ℕ)) (old : Session) (after : Option (List ℕ)) (new : Session) : Type 0 where
+  pub on : (opening : Opening) (first now : Moment) (start : Option (List ℕ)) → InReplay opening stream fed first now start before old → ReplaysFrom opening stream first now start after
+  pub transaction : new.transaction ≡ old.transaction
 
 -- The stream is fed on, where the session has room, and at its end the session is told so.
 pub record FeedsOn (stream : List ℕ) (fed : ℕ) (old : Session) (next : ℕ) (new : Session) : Type 0 where

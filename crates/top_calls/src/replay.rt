@@ -1,16 +1,22 @@
 ghost use Rattle.std.specs.Prelude.{◌≡◌, ◌<◌, ◌≤◌, [], true, false, length, Option, List, ℕ, IfSome, IfNone};
 ghost use Rattle.causes.specs.Faults.{Rose};
+ghost use Rattle.commit_log.specs.Places.{own_kept};
 ghost use Rattle.session_poll.specs.Runs.{IsAt};
-ghost use Rattle.session_poll.specs.Servable.{IsServable};
 ghost use Rattle.session_poll.specs.Session.{waiting_of, is_over};
 ghost use Rattle.top_calls.specs.Exits.{CountsWrites};
-ghost use Rattle.top_calls.specs.Replays.{FeedsOn, GoesOn, IsReplayExit, Moves, PutsAll, Replays, ReplaysAll, Stops};
+ghost use Rattle.session_transactions.specs.Goings.{FitsStore};
+ghost use Rattle.store_states.specs.Promises.{Opens};
+ghost use Rattle.store_states.specs.Views.{IsStore};
+ghost use Rattle.stored_versions.specs.Openings.{Opening};
+ghost use Rattle.top_calls.specs.Replays.{FeedsOn, GoesOn, IsReplayExit, Moves, PutsAll, Replays, ReplaysAll, ReplaysAllFrom, ReplaysFrom, Stops, log_limit};
 ghost use Rattle.top_calls.specs.declared.exit.Exit.TheVariants as exit;
 
 use crate::exit::Exit;
 use crate::sink::{Sink, SinkPut};
+use commit_log::{Keeper, OwnLog};
 use feature_expr::Memory;
-use session_poll::{Opening, Polled, Session};
+use session_poll::{Polled, Session};
+use snapshot_store::Store;
 use std::alloc::Global;
 
 /// How many bytes a session is fed at once.
@@ -19,39 +25,53 @@ const CUT: usize = 4_096;
 /// How many bytes may wait before they are put out, though the session could go on.
 const WAITING_LIMIT: usize = 65_536;
 
-/// Runs one session over a stream of bytes, up to its end or to the session's, and puts out what it answers.
-#[tactic(auto, using(crate::proofs::ReplayLaws::replays_nothing))]
-pub fn replay<O: Sink>(alloc: Global, opening: &Opening, stream: &[u8], out: &mut O) -> Exit
-    requires { IsServable opening.now }
+/// The number of a replay's loop of sessions, which has one.
+pub const LOOP_NO: u32 = 0;
+
+/// Runs one session over a stream of bytes, up to its end or to the session's, and puts out what it answers. The store was
+/// just opened over an empty log.
+#[tactic(auto, using(crate::proofs::LogLaws::replays_nothing, crate::proofs::LogLaws::replays_alone, crate::proofs::LogLaws::replays_all_alone))]
+pub fn replay<O: Sink>(alloc: Global, store: Store<OwnLog>, stream: &[u8], out: &mut O) -> Exit
     ensures ends { IsReplayExit result (O.held out.old) (O.held out.new) }
     ensures writes { CountsWrites result (O.held out.old).faults (O.held out.new).faults }
     ensures later { (O.held out.old).faults ≤ (O.held out.new).faults }
-    ensures replays { Replays opening.now stream.now (O.held out.old).bytes (O.held out.new).bytes }
-    ensures all { result ≡ exit.Done → ReplaysAll opening.now stream.now (O.held out.old).bytes (O.held out.new).bytes }
+    ensures replays { (opening : Opening) → Opens opening (own_kept [] log_limit 0) 0 store → Replays opening stream.now (O.held out.old).bytes (O.held out.new).bytes }
+    ensures all { result ≡ exit.Done → (opening : Opening) → Opens opening (own_kept [] log_limit 0) 0 store → ReplaysAll opening stream.now (O.held out.old).bytes (O.held out.new).bytes }
 {
+    let mut store = store;
     let mut session = match Session::open(alloc) {
         Ok(session) => session,
-        Err(Memory) => return Exit::Memory,
+        Err(Memory) => {
+            store.into_keeper().known();
+            return Exit::Memory;
+        }
     };
-    let exit = drive(&mut session, opening, stream, out);
-    session.close(opening);
+    let exit = drive(&mut session, &mut store, stream, out);
+    session.close(&mut store);
+    store.into_keeper().known();
     exit
 }
 
 #[tactic(auto, using(crate::proofs::ReplayLaws::replays_so_far, crate::proofs::ReplayLaws::closed_all))]
-fn drive<O: Sink>(session: &mut Session, opening: &Opening, stream: &[u8], out: &mut O) -> Exit
-    requires servable { IsServable opening.now }
-    requires first { IsAt opening.now [] [] [] session.old }
+fn drive<K: Keeper, O: Sink>(
+    session: &mut Session,
+    store: &mut Store<K>,
+    stream: &[u8],
+    out: &mut O,
+) -> Exit
+    requires first { (opening : Opening) → IsAt opening [] [] [] session.old }
     requires over { is_over session.old ≡ false }
+    requires fits { FitsStore session.old.transaction store.old }
     ensures ends { IsReplayExit result (O.held out.old) (O.held out.new) }
     ensures writes { CountsWrites result (O.held out.old).faults (O.held out.new).faults }
     ensures later { (O.held out.old).faults ≤ (O.held out.new).faults }
-    ensures replays { Replays opening.now stream.now (O.held out.old).bytes (O.held out.new).bytes }
-    ensures all { result ≡ exit.Done → ReplaysAll opening.now stream.now (O.held out.old).bytes (O.held out.new).bytes }
+    ensures fits { FitsStore session.new.transaction store.new }
+    ensures replays { (opening : Opening) → IsStore opening store.old → ReplaysFrom opening stream.now store.old.moment store.new.moment (O.held out.old).bytes (O.held out.new).bytes }
+    ensures all { result ≡ exit.Done → (opening : Opening) → IsStore opening store.old → ReplaysAllFrom opening stream.now store.old.moment store.new.moment (O.held out.old).bytes (O.held out.new).bytes }
 {
     let mut fed: usize = 0;
     'turns: for _ in 0..u64::MAX {
-        let polled = session.poll(opening);
+        let polled = session.poll(store);
         if polled == Polled::Closed {
             return Exit::Done;
         }
@@ -75,7 +95,7 @@ fn follow<O: Sink>(
     requires { fed ≤ length stream.now }
     ensures within { IfSome result (λ next. next ≤ length stream.now) }
     ensures on { IfSome result (λ next. GoesOn stream.now fed (O.held out.old).bytes session.old next (O.held out.new).bytes session.new) }
-    ensures stops { IfNone result (Stops stream.now fed (O.held out.old).bytes session.old (O.held out.new).bytes) }
+    ensures stops { IfNone result (Stops stream.now fed (O.held out.old).bytes session.old (O.held out.new).bytes session.new) }
     ensures quiet { IfSome result (λ _. (O.held out.new).faults ≡ (O.held out.old).faults) }
     ensures fault { IfNone result (Rose (O.held out.old).faults (O.held out.new).faults) }
     ensures later { (O.held out.old).faults ≤ (O.held out.new).faults }
@@ -118,7 +138,7 @@ fn put_waiting<O: Sink>(
 ) -> Option<usize>
     ensures same { IfSome result (λ next. next ≡ fed) }
     ensures on { IfSome result (λ next. GoesOn stream.now fed (O.held out.old).bytes session.old fed (O.held out.new).bytes session.new) }
-    ensures stops { IfNone result (Stops stream.now fed (O.held out.old).bytes session.old (O.held out.new).bytes) }
+    ensures stops { IfNone result (Stops stream.now fed (O.held out.old).bytes session.old (O.held out.new).bytes session.new) }
     ensures quiet { IfSome result (λ _. (O.held out.new).faults ≡ (O.held out.old).faults) }
     ensures fault { IfNone result (Rose (O.held out.old).faults (O.held out.new).faults) }
     ensures later { (O.held out.old).faults ≤ (O.held out.new).faults }

@@ -1,28 +1,36 @@
-ghost use Rattle.std.specs.Prelude.{◌≡◌, ◌≤◌, ◌↔◌, ◌⊎◌, ◌||◌, true, false, map, length, string_bytes, is_some, OnOk, IfSome, IfOk, IfErr};
+ghost use Rattle.std.specs.Prelude.{◌≡◌, ◌≤◌, ◌↔◌, ◌⊎◌, ◌||◌, [], true, false, map, length, string_bytes, is_some, OnOk, IfSome, IfOk, IfErr};
 ghost use Rattle.causes.specs.Told.{IsContent};
 ghost use Rattle.top_calls.specs.Sources.{IsLong, Lasts, MayFail, file_limit};
 ghost use Rattle.top_calls.specs.Exits.{is_replay, is_check, catalogue_name, stream_name, IsReadable, IsRefusedFile, IfCatalogue, IfUnopened, IsReadExit, IsOpeningExit, HasNoFault, IsToolExit, CountsReads, CountsWrites};
 ghost use Rattle.top_calls.specs.Passed.{HasPassed};
 ghost use Rattle.top_calls.specs.Checks.{IsChecked, IsCheckedFile, IsReady, IsToldExit, IsCheckExit, IsUnpassedExit};
-ghost use Rattle.session_poll.specs.Servable.{IsServable};
+ghost use Rattle.commit_log.specs.Places.{own_kept};
+ghost use Rattle.store_states.specs.Promises.{Opens};
+ghost use Rattle.stored_versions.specs.Openings.{Opening};
+ghost use Rattle.top_calls.specs.Replays.{log_limit};
+ghost use Rattle.top_calls.specs.Stores.{IsOpenedStore};
 ghost use Rattle.vschema.specs.Formed.{IsFormed};
 ghost use Rattle.top_calls.specs.Replayed.{IsReplayedExit, IsRunExit};
 ghost use Rattle.top_calls.specs.declared.exit.Exit.TheVariants as exit;
 
 use crate::check_line::line_of_passed;
 use crate::exit::{CatalogueFault, Exit};
-use crate::replay::{put_all, replay};
+use crate::replay::{LOOP_NO, put_all, replay};
 use crate::sink::Sink;
 use crate::source::{FileGot, Source};
+use commit_log::OwnLog;
 use condition_sat::Model;
 use feature_expr::{List, Memory};
-use session_poll::Opening;
+use snapshot_store::{OpenRefused, Store};
 use std::alloc::Global;
 use vra_types::{CheckRefused, check_catalog};
 use vschema::{Catalog, CatalogRefused, OpeningRow, parse_catalog};
 
 /// The greatest length of a file that is read, in bytes.
 pub const FILE_LIMIT: u64 = 268_435_456;
+
+/// The greatest number of commits of a replay's log.
+const LOG_LIMIT: u64 = 1_000_000;
 
 /// Runs the command that the words name: `replay CATALOGUE STREAM` runs one session over the bytes of the second file
 /// and puts out what it answers. `check CATALOGUE` says whether the catalogue can be used.
@@ -139,7 +147,7 @@ fn run_check<F: Source, O: Sink>(alloc: Global, catalogue: &str, files: &mut F, 
     }
 }
 
-#[tactic(auto, using(crate::proofs::CompleteLaws::opening_completes, crate::proofs::CompleteLaws::read_completes, crate::proofs::CompleteLaws::replay_completes, crate::proofs::ReplayedLaws::replayed, crate::proofs::ReplayedLaws::not_opened, crate::proofs::ReplayedLaws::not_read, crate::proofs::ReplayedLaws::read_runs, crate::proofs::CountLaws::counts))]
+#[tactic(auto, using(crate::proofs::CompleteLaws::opening_completes, crate::proofs::CompleteLaws::read_completes, crate::proofs::CompleteLaws::replay_completes, crate::proofs::ReplayedLaws::replayed_over, crate::proofs::ReplayedLaws::not_opened, crate::proofs::ReplayedLaws::not_read, crate::proofs::ReplayedLaws::read_over, crate::proofs::CountLaws::counts))]
 fn run_replay<F: Source, O: Sink>(
     alloc: Global,
     catalogue: &str,
@@ -156,29 +164,29 @@ fn run_replay<F: Source, O: Sink>(
     ensures lasts { Lasts (F.files files.old) (F.files files.new) }
     ensures later { (O.held out.old).faults ≤ (O.held out.new).faults }
 {
-    let opening = match read_opening(alloc, catalogue, files) {
-        Ok(opening) => opening,
+    let store = match read_store(alloc, catalogue, files) {
+        Ok(store) => store,
         Err(exit) => return exit,
     };
     let bytes = match read_whole(alloc, stream, files) {
         Ok(bytes) => bytes,
         Err(exit) => return exit,
     };
-    replay(alloc, &opening, bytes.as_slice(), out)
+    replay(alloc, store, bytes.as_slice(), out)
 }
 
-/// What a session over a catalogue answers from, where the catalogue passes its check.
-fn read_opening<F: Source>(alloc: Global, name: &str, files: &mut F) -> Result<Opening, Exit>
+/// A store over a catalogue that passes its check, with an empty log.
+#[tactic(auto, using(crate::proofs::ReplayedLaws::opened_by))]
+fn read_store<F: Source>(alloc: Global, name: &str, files: &mut F) -> Result<Store<OwnLog>, Exit>
     ensures readable { OnOk result (IsReadable (F.files files.old) name.now) }
-    ensures checked { IfOk result (λ opening. IsCheckedFile (F.files files.old) name.now opening.catalog opening.rows) }
-    ensures servable { IfOk result IsServable }
+    ensures opened { IfOk result (λ store. IsOpenedStore (F.files files.old) name.now store) }
     ensures err { IfErr result (λ exit. IsOpeningExit (F.files files.old) name.now exit (F.files files.new)) }
     ensures quiet { OnOk result ((F.files files.new).faults ≡ (F.files files.old).faults) }
     ensures reads { IfErr result (λ exit. CountsReads exit (F.files files.old).faults (F.files files.new).faults) }
     ensures lasts { Lasts (F.files files.old) (F.files files.new) }
 {
     let passed = read_catalogue(alloc, name, files)?;
-    opening_of(alloc, passed)
+    store_of(alloc, passed)
 }
 
 /// Reads a catalogue and checks it, and drops its bytes.
@@ -221,10 +229,10 @@ fn checked_catalogue(
     }
 }
 
-fn opening_of(alloc: Global, passed: Passed) -> Result<Opening, Exit>
+#[tactic(auto, using(crate::proofs::LogLaws::never_failed))]
+fn store_of(alloc: Global, passed: Passed) -> Result<Store<OwnLog>, Exit>
     requires { HasPassed passed }
-    ensures opened { IfOk result (λ opening. (opening.catalog ≡ passed.catalog) × (opening.rows ≡ passed.rows)) }
-    ensures servable { IfOk result IsServable }
+    ensures opened { IfOk result (λ store. Opens (record { catalog = passed.catalog; rows = passed.rows }) (own_kept [] log_limit 0) 0 store) }
     ensures memory { IfErr result (λ why. why ≡ exit.Memory) }
 {
     let Passed {
@@ -232,9 +240,15 @@ fn opening_of(alloc: Global, passed: Passed) -> Result<Opening, Exit>
         rows,
         model,
     } = passed;
-    match Opening::new(alloc, catalog, rows, model) {
-        Ok(opening) => Ok(opening),
-        Err(Memory) => Err(Exit::Memory),
+    let log = OwnLog::new(alloc, LOG_LIMIT);
+    match Store::over(alloc, catalog, rows, model, log, LOOP_NO) {
+        Ok(store) => Ok(store),
+        Err((OpenRefused::Memory, _log)) => Err(Exit::Memory),
+        Err((OpenRefused::KeeperFault, log)) => {
+            // (a log in memory never fails)
+            log.known();
+            Err(Exit::Memory)
+        }
     }
 }
 
